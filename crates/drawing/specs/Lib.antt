@@ -1,0 +1,9 @@
+pub mod Counts
+pub mod Codes
+pub mod Drawings
+pub mod Plans
+pub mod Labels
+pub mod Answers
+pub mod Records
+pub mod Solvers
+pub mod Tests
