@@ -1,0 +1,3 @@
+// Tests of the checks at and past each limit.
+#[cfg(test)]
+mod admission;
