@@ -1,0 +1,4 @@
+pub mod Flows
+pub mod Duality
+pub mod Examples
+pub mod Findings

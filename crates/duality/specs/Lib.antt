@@ -1,0 +1,3 @@
+pub mod Duality
+pub mod Examples
+pub mod Findings
