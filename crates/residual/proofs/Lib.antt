@@ -1,0 +1,11 @@
+pub mod Moves
+pub mod Pairs
+pub mod Chains
+pub mod Rounds
+pub mod Layers
+pub mod Arcs
+pub mod Terminals
+pub mod Cuts
+pub mod Rights
+pub mod Reaches
+pub mod Rooms
