@@ -1,0 +1,5 @@
+pub mod Flows
+pub mod Scans
+pub mod Progress
+pub mod Turns
+pub mod Ending

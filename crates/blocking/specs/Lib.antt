@@ -1,0 +1,4 @@
+pub mod Push
+pub mod Flows
+pub mod Phases
+pub mod Model
