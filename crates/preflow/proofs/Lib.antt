@@ -1,0 +1,10 @@
+pub mod Sums
+pub mod Kept
+pub mod Gap
+pub mod Heights
+pub mod Lines
+pub mod Progress
+pub mod Steps
+pub mod Moving
+pub mod Order
+pub mod Ending
