@@ -1,0 +1,14 @@
+pub mod Supplied
+pub mod Places
+pub mod Added
+pub mod Steps
+pub mod Links
+pub mod Relabel
+pub mod Terminals
+pub mod Ones
+pub mod Merging
+pub mod Limits
+pub mod LowersFirst
+pub mod Finding
+pub mod LowersSecond
+pub mod Carrying

@@ -1,0 +1,5 @@
+pub mod Added
+pub mod Links
+pub mod Terminals
+pub mod Limits
+pub mod LowerBounds
