@@ -1,0 +1,13 @@
+use mathlib.Core.Path.{_≡_}
+use mathlib.Core.List.{map}
+use Rattle.std.specs.Iters.{counting}
+use Rattle.std.specs.Of.Vec.{vec-items, vec-len, vec-cap}
+use Rattle.drawing.specs.Records.{network}
+use Rattle.reductions.specs.Limits.{limitsLabel}
+use Rattle.limits.proofs.layer.reading.read_labels.Given as given
+
+abbrev pub Inv-loop-i : given.InvT-loop-i
+Inv-loop-i l =
+    (vec-items (l .out) ≡ map (limitsLabel (network (l .drawing)) (l .labels)) (counting 1 (l .i)))
+    × (vec-len (l .out) ≡ l .i)
+    × (vec-cap (l .out) ≡ vec-cap (l .entry .out))

@@ -1,0 +1,4 @@
+mod Sums
+mod Writing
+mod Reading
+mod Solving
