@@ -50,19 +50,19 @@ module _ (d : Network) (p : Plain d) where
             lt-ltb 0 (get_or o.1 (head_of hs a) 0) (e.layered.shut e.apart a h (ltb-true 0 (get_or o.1 (tail_of hs a) 0) n) w).0;
       }
 
-  right-after : (f : ℕ) → 1800000000 < f → Right d (read d (ending d f))
-  right-after f h = let o : Out = ending d f in right d p o.0 (reached o.1) o.2 (solved o (ended f h))
+  right_after : (f : ℕ) → 1800000000 < f → Right d (read d (ending d f))
+  right_after f h = let o : Out = ending d f in right d p o.0 (reached o.1) o.2 (solved o (ended f h))
 
-  near-after : (f : ℕ) → 1800000000 < f → NearByPaths d (read d (ending d f))
-  near-after f h = let o : Out = ending d f in near_by_paths d p o.0 o.1 o.2 (solved o (ended f h)) (ended f h).layered
+  near_after : (f : ℕ) → 1800000000 < f → NearByPaths d (read d (ending d f))
+  near_after f h = let o : Out = ending d f in near_by_paths d p o.0 o.1 o.2 (solved o (ended f h)) (ended f h).layered
 
 pub dinic_right : (d : Network) → Carried plain_statements d → Right d (dinic_answer d)
 unfolding dinic_answer
-dinic_right d c = right-after d (plain d c) 1800000001 (omega arith)
+dinic_right d c = right_after d (plain d c) 1800000001 (omega arith)
 
 pub dinic_near : (d : Network) → Carried plain_statements d → NearByPaths d (dinic_answer d)
 unfolding dinic_answer
-dinic_near d c = near-after d (plain d c) 1800000001 (omega arith)
+dinic_near d c = near_after d (plain d c) 1800000001 (omega arith)
 
 -- the first phase passes over the levels that stood before
 phases_any : (hs fs : List ℕ) (source sink f : ℕ) (rs ls ms : List ℕ) (total : ℕ) → 0 < f → phases hs fs source sink f rs ls total ≡ phases hs fs source sink f rs ms total

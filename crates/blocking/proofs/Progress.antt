@@ -1,5 +1,5 @@
 -- A push from the source moves something where the sink has a level.
-use Rattle.std.proofs.Common.{◌≡◌, ℕ, zero, suc, ◌+◌, ◌-◌, ◌<◌, ◌≤◌, min, true, false, ◌&&◌, eqb, ltb, ◌≢◌, ◌⊎◌, List, length, get_or, set, sym, refl, ap, ◌∙◌, subst, inl, inr, ⊎_elim, arith, length-set, get_or-set_other, get_or-set_same}
+use Rattle.std.proofs.Common.{◌≡◌, ℕ, zero, suc, ◌+◌, ◌-◌, ◌<◌, ◌≤◌, min, true, ◌&&◌, eqb, ltb, ◌≢◌, ◌⊎◌, List, length, get_or, set, sym, refl, ap, ◌∙◌, subst, inl, inr, ⊎_elim, arith, length-set, get_or-set_other, get_or-set_same}
 use Rattle.std.proofs.lemmas.Bool.{eqb-true, eqb-false, lt-ltb, cases_eq, cases_lt, cond_both, eq-eqb, and_from, and_parts, ltb-true, true≢false}
 use Rattle.std.proofs.lemmas.List.{get_or_past, set-get_or}
 use Rattle.residual.specs.Net.{mate_of, head_of, tail_of, before, Started, moved}
@@ -7,25 +7,25 @@ use Rattle.blocking.specs.Push.{Out, apt, taken, scans, pushes}
 use Rattle.residual.specs.Layers.{Layered}
 
 module _ (hs ls : List ℕ) (P : ℕ → ℕ → List ℕ → List ℕ → Out) (v lv : ℕ) where
-  taken-under : (k left amount : ℕ) (o : Out) (more : ℕ → List ℕ → List ℕ → Out) → ((l : ℕ) (r c : List ℕ) → (more l r c).2 ≤ l) → (taken v k left amount o more).2 ≤ left
+  taken_under : (k left amount : ℕ) (o : Out) (more : ℕ → List ℕ → List ℕ → Out) → ((l : ℕ) (r c : List ℕ) → (more l r c).2 ≤ l) → (taken v k left amount o more).2 ≤ left
   unfolding taken
-  taken-under k left amount o more h =
+  taken_under k left amount o more h =
       let got : ℕ = amount - o.2 in
       cond_both (eqb (left - got) 0) (moved o.0 k got, set o.1 v (suc k), 0) (more (left - got) (moved o.0 k got) o.1) (λ (x : Out). x.2 ≤ left)
       (λ t. omega arith) (λ t. let q = h (left - got) (moved o.0 k got) o.1 in omega arith)
 
-  scans-under : (k left : ℕ) (rs cs : List ℕ) → (scans hs ls P v lv k left rs cs).2 ≤ left
+  scans_under : (k left : ℕ) (rs cs : List ℕ) → (scans hs ls P v lv k left rs cs).2 ≤ left
   unfolding scans
-  scans-under zero left rs cs = omega arith
-  scans-under (suc k) left rs cs =
+  scans_under zero left rs cs = omega arith
+  scans_under (suc k) left rs cs =
       cond_both (apt hs ls v lv k rs) _ _ (λ (x : Out). x.2 ≤ left)
-      (λ t. taken-under k left _ _ _ (λ l r c. scans-under k l r c))
-      (λ t. scans-under k left rs cs)
+      (λ t. taken_under k left _ _ _ (λ l r c. scans_under k l r c))
+      (λ t. scans_under k left rs cs)
 
 pub pushes_under : (hs ls : List ℕ) (sink top d v lim : ℕ) (rs cs : List ℕ) → (pushes hs ls sink top d v lim rs cs).2 ≤ lim
 unfolding pushes
 pushes_under hs ls sink top zero v lim rs cs = cond_both (eqb v sink) 0 lim (λ (x : ℕ). x ≤ lim) (λ t. omega arith) (λ t. omega arith)
-pushes_under hs ls sink top (suc d) v lim rs cs = scans-under hs ls (pushes hs ls sink top d) v (top - d) (get_or cs v 0) lim rs cs
+pushes_under hs ls sink top (suc d) v lim rs cs = scans_under hs ls (pushes hs ls sink top d) v (top - d) (get_or cs v 0) lim rs cs
 
 apt_true : (hs ls : List ℕ) (v lv k : ℕ) (rs : List ℕ) → tail_of hs k ≡ v → 0 < get_or rs k 0 → get_or ls (head_of hs k) 0 ≡ lv → apt hs ls v lv k rs ≡ true
 unfolding apt
@@ -69,7 +69,7 @@ zeroed_keeps cs v u h = ⊎_elim (λ e. rw e (get_or_zeroed cs v)) (λ ne. get_o
 module _ (hs ls : List ℕ) (sink top : ℕ) (at_top : get_or ls sink 0 ≡ top) where
   -- no push from u has a way on
   record Blocked (cs : List ℕ) (u : ℕ) : Type 0 where
-    not-sink : u ≢ sink
+    not_sink : u ≢ sink
     spent : (get_or ls u 0 ≡ top) ⊎ (get_or cs u 0 ≡ 0)
 
   -- each open arc one level on that the current arcs have passed goes to a blocked point
@@ -82,16 +82,16 @@ module _ (hs ls : List ℕ) (sink top : ℕ) (at_top : get_or ls sink 0 ≡ top)
     mono : (u : ℕ) → get_or cs u 0 ≡ 0 → get_or o.1 u 0 ≡ 0
     blocked : Blocked o.1 v
 
-  blocked-mono : (cs ds : List ℕ) → ((u : ℕ) → get_or cs u 0 ≡ 0 → get_or ds u 0 ≡ 0) → (u : ℕ) → Blocked cs u → Blocked ds u
-  blocked-mono cs ds m u b = record { not-sink = b.not-sink; spent = ⊎_elim (λ x. inl x) (λ x. inr (m u x)) b.spent }
+  blocked_mono : (cs ds : List ℕ) → ((u : ℕ) → get_or cs u 0 ≡ 0 → get_or ds u 0 ≡ 0) → (u : ℕ) → Blocked cs u → Blocked ds u
+  blocked_mono cs ds m u b = record { not_sink = b.not_sink; spent = ⊎_elim (λ x. inl x) (λ x. inr (m u x)) b.spent }
 
   -- the arcs from k on that leave v
   abbrev Passed : (v k : ℕ) (rs cs : List ℕ) → Type 0
   Passed v k rs cs = (a : ℕ) → a < length hs → tail_of hs a ≡ v → k ≤ a → 0 < get_or rs a 0 → get_or ls (head_of hs a) 0 ≡ get_or ls v 0 + 1 → Blocked cs (head_of hs a)
 
-  taken-idle : (v k left amount : ℕ) (rs cs : List ℕ) (o : Out) (more : ℕ → List ℕ → List ℕ → Out) → 0 < left → amount ≤ left → o.2 ≤ amount → (o.2 ≡ amount → Idle (head_of hs k) rs cs o) → ((l : ℕ) (r c : List ℕ) → (more l r c).2 ≤ l) → ((ds : List ℕ) → ((u : ℕ) → get_or cs u 0 ≡ 0 → get_or ds u 0 ≡ 0) → Closed rs ds → Blocked ds (head_of hs k) → (more left rs ds).2 ≡ left → Idle v rs ds (more left rs ds)) → (taken v k left amount o more).2 ≡ left → Idle v rs cs (taken v k left amount o more)
+  taken_idle : (v k left amount : ℕ) (rs cs : List ℕ) (o : Out) (more : ℕ → List ℕ → List ℕ → Out) → 0 < left → amount ≤ left → o.2 ≤ amount → (o.2 ≡ amount → Idle (head_of hs k) rs cs o) → ((l : ℕ) (r c : List ℕ) → (more l r c).2 ≤ l) → ((ds : List ℕ) → ((u : ℕ) → get_or cs u 0 ≡ 0 → get_or ds u 0 ≡ 0) → Closed rs ds → Blocked ds (head_of hs k) → (more left rs ds).2 ≡ left → Idle v rs ds (more left rs ds)) → (taken v k left amount o more).2 ≡ left → Idle v rs cs (taken v k left amount o more)
   unfolding taken
-  taken-idle v k left amount rs cs o more pos al ol io under im =
+  taken_idle v k left amount rs cs o more pos al ol io under im =
       let got : ℕ = amount - o.2 in
       let on : List ℕ = moved o.0 k got in
       cond_both (eqb (left - got) 0) (on, set o.1 v (suc k), 0) (more (left - got) on o.1) (λ (x : Out). x.2 ≡ left → Idle v rs cs x)
@@ -107,40 +107,40 @@ module _ (hs ls : List ℕ) (sink top : ℕ) (at_top : get_or ls sink 0 ≡ top)
       let k : Idle v rs cs (more left rs o.1) = record { same = j.same; closed = j.closed; mono = λ w h. j.mono w (i.mono w h); blocked = j.blocked } in
       subst (Idle v rs cs) (sym m) k)
 
-  scans-idle : (P : ℕ → ℕ → List ℕ → List ℕ → Out) (v : ℕ) → get_or ls v 0 < top → ((w lim : ℕ) (rs cs : List ℕ) → (P w lim rs cs).2 ≤ lim) → ((w lim : ℕ) (rs cs : List ℕ) → 0 < lim → get_or ls w 0 ≡ suc (get_or ls v 0) → Closed rs cs → (P w lim rs cs).2 ≡ lim → Idle w rs cs (P w lim rs cs)) → (k left : ℕ) (rs cs : List ℕ) → 0 < left → Closed rs cs → Passed v k rs cs → (scans hs ls P v (suc (get_or ls v 0)) k left rs cs).2 ≡ left → Idle v rs cs (scans hs ls P v (suc (get_or ls v 0)) k left rs cs)
+  scans_idle : (P : ℕ → ℕ → List ℕ → List ℕ → Out) (v : ℕ) → get_or ls v 0 < top → ((w lim : ℕ) (rs cs : List ℕ) → (P w lim rs cs).2 ≤ lim) → ((w lim : ℕ) (rs cs : List ℕ) → 0 < lim → get_or ls w 0 ≡ suc (get_or ls v 0) → Closed rs cs → (P w lim rs cs).2 ≡ lim → Idle w rs cs (P w lim rs cs)) → (k left : ℕ) (rs cs : List ℕ) → 0 < left → Closed rs cs → Passed v k rs cs → (scans hs ls P v (suc (get_or ls v 0)) k left rs cs).2 ≡ left → Idle v rs cs (scans hs ls P v (suc (get_or ls v 0)) k left rs cs)
   unfolding scans
-  scans-idle P v below under idle zero left rs cs pos cl pa = λ e. record {
+  scans_idle P v below under idle zero left rs cs pos cl pa = λ e. record {
     same = refl;
     closed = λ a ain low past wide up.
-        blocked-mono cs (set cs v 0) (zeroed_keeps cs v) (head_of hs a)
+        blocked_mono cs (set cs v 0) (zeroed_keeps cs v) (head_of hs a)
         (elim (cases_eq (tail_of hs a) v) [
           | inl q ↦ pa a ain q (omega arith) wide (subst (λ (x : ℕ). get_or ls (head_of hs a) 0 ≡ get_or ls x 0 + 1) q up)
           | inr ne ↦ cl a ain low (let g = get_or-set_other cs v (tail_of hs a) 0 0 ne in omega arith) wide up
         ]);
     mono = zeroed_keeps cs v;
-    blocked = record { not-sink = λ q. let z = ap (λ (x : ℕ). get_or ls x 0) q in omega arith; spent = inr (get_or_zeroed cs v) };
+    blocked = record { not_sink = λ q. let z = ap (λ (x : ℕ). get_or ls x 0) q in omega arith; spent = inr (get_or_zeroed cs v) };
   }
-  scans-idle P v below under idle (suc k) left rs cs pos cl pa =
+  scans_idle P v below under idle (suc k) left rs cs pos cl pa =
       cond_both (apt hs ls v (suc (get_or ls v 0)) k rs) _ _ (λ (x : Out). x.2 ≡ left → Idle v rs cs x)
       (λ t e.
       let w = apt_wide hs ls v (suc (get_or ls v 0)) k rs t in
       let amount : ℕ = min left (get_or rs k 0) in
       let wide = w.0 in
-      taken-idle v k left amount rs cs (P (head_of hs k) amount rs cs) (λ l r c. scans hs ls P v (suc (get_or ls v 0)) k l r c) pos (omega arith)
+      taken_idle v k left amount rs cs (P (head_of hs k) amount rs cs) (λ l r c. scans hs ls P v (suc (get_or ls v 0)) k l r c) pos (omega arith)
       (under (head_of hs k) amount rs cs)
       (λ q. idle (head_of hs k) amount rs cs (omega arith) w.1 cl q)
-      (λ l r c. scans-under hs ls P v (suc (get_or ls v 0)) k l r c)
+      (λ l r c. scans_under hs ls P v (suc (get_or ls v 0)) k l r c)
       (λ ds mono cl' bl q.
-      scans-idle P v below under idle k left rs ds pos cl'
+      scans_idle P v below under idle k left rs ds pos cl'
       (λ a ain tv ka wa up.
       elim (cases_eq a k) [
         | inl s ↦ subst (λ (x : ℕ). Blocked ds (head_of hs x)) (sym s) bl
-        | inr ne ↦ blocked-mono cs ds mono (head_of hs a) (pa a ain tv (omega arith) wa up)
+        | inr ne ↦ blocked_mono cs ds mono (head_of hs a) (pa a ain tv (omega arith) wa up)
       ])
       q)
       e)
       (λ t e.
-      scans-idle P v below under idle k left rs cs pos cl
+      scans_idle P v below under idle k left rs cs pos cl
       (λ a ain tv ka wa up.
       elim (cases_eq a k) [
         | inl s ↦
@@ -149,18 +149,18 @@ module _ (hs ls : List ℕ) (sink top : ℕ) (at_top : get_or ls sink 0 ≡ top)
       ])
       e)
 
-  pushes-idle : (d v lim : ℕ) (rs cs : List ℕ) → get_or ls v 0 + d ≡ top → 0 < lim → Closed rs cs → (pushes hs ls sink top d v lim rs cs).2 ≡ lim → Idle v rs cs (pushes hs ls sink top d v lim rs cs)
+  pushes_idle : (d v lim : ℕ) (rs cs : List ℕ) → get_or ls v 0 + d ≡ top → 0 < lim → Closed rs cs → (pushes hs ls sink top d v lim rs cs).2 ≡ lim → Idle v rs cs (pushes hs ls sink top d v lim rs cs)
   unfolding pushes
-  pushes-idle zero v lim rs cs t pos cl =
+  pushes_idle zero v lim rs cs t pos cl =
       cond_both (eqb v sink) 0 lim (λ (x : ℕ). x ≡ lim → Idle v rs cs (rs, cs, x))
       (λ q e. absurd (let b : ⊥ = omega arith in b))
-      (λ q e. record { same = refl; closed = cl; mono = λ u h. h; blocked = record { not-sink = eqb-false v sink q; spent = inl (omega arith) } })
-  pushes-idle (suc d) v lim rs cs t pos cl =
+      (λ q e. record { same = refl; closed = cl; mono = λ u h. h; blocked = record { not_sink = eqb-false v sink q; spent = inl (omega arith) } })
+  pushes_idle (suc d) v lim rs cs t pos cl =
       let up : top - d ≡ suc (get_or ls v 0) = omega arith in
       let below : get_or ls v 0 < top = omega arith in
       rw up
-      (scans-idle (pushes hs ls sink top d) v below (pushes_under hs ls sink top d)
-      (λ w lim' rs' cs' pos' lw cl' e'. pushes-idle d w lim' rs' cs' (omega arith) pos' cl' e')
+      (scans_idle (pushes hs ls sink top d) v below (pushes_under hs ls sink top d)
+      (λ w lim' rs' cs' pos' lw cl' e'. pushes_idle d w lim' rs' cs' (omega arith) pos' cl' e')
       (get_or cs v 0) lim rs cs pos cl
       (λ a ain tv ka wa u.
       cl a ain (subst (λ (x : ℕ). get_or ls x 0 < top) (sym tv) below) (subst (λ (x : ℕ). get_or cs x 0 ≤ a) (sym tv) ka) wa (subst (λ (x : ℕ). get_or ls (head_of hs a) 0 ≡ get_or ls x 0 + 1) (sym tv) u)))
@@ -171,8 +171,8 @@ module _ (hs ls : List ℕ) (sink top : ℕ) (at_top : get_or ls sink 0 ≡ top)
     level : get_or ls point 0 ≡ l
     free : Blocked cs point → ⊥
 
-  free-down : (source : ℕ) (rs cs : List ℕ) → Layered hs rs source sink ls → Closed rs cs → (l : ℕ) → suc (suc l) ≤ top → Free cs (suc (suc l)) → Free cs (suc l)
-  free-down source rs cs la cl l h f =
+  free_down : (source : ℕ) (rs cs : List ℕ) → Layered hs rs source sink ls → Closed rs cs → (l : ℕ) → suc (suc l) ≤ top → Free cs (suc (suc l)) → Free cs (suc l)
+  free_down source rs cs la cl l h f =
       let e = f.level in
       let i = la.reached f.point (omega arith) in
       let fr = i.from in
@@ -184,13 +184,13 @@ module _ (hs ls : List ℕ) (sink top : ℕ) (at_top : get_or ls sink 0 ≡ top)
             f.free (subst (Blocked cs) i.to (cl i.arc i.within (omega arith) (omega arith) i.wide (let t = ap (λ (x : ℕ). get_or ls x 0) i.to in omega arith)));
       }
 
-  free-first : (source : ℕ) (rs cs : List ℕ) → Layered hs rs source sink ls → Closed rs cs → (l : ℕ) → suc l ≤ top → Free cs (suc l) → Free cs 1
-  free-first source rs cs la cl zero h f = f
-  free-first source rs cs la cl (suc l) h f = free-first source rs cs la cl l (omega arith) (free-down source rs cs la cl l h f)
+  free_first : (source : ℕ) (rs cs : List ℕ) → Layered hs rs source sink ls → Closed rs cs → (l : ℕ) → suc l ≤ top → Free cs (suc l) → Free cs 1
+  free_first source rs cs la cl zero h f = f
+  free_first source rs cs la cl (suc l) h f = free_first source rs cs la cl l (omega arith) (free_down source rs cs la cl l h f)
 
   -- no arc is passed where each point's chain starts
-  started-closed : (fs rs : List ℕ) → Started hs fs → ((a : ℕ) → a < length hs → tail_of hs a < length fs) → Closed rs fs
-  started-closed fs rs st tails a ain low past wide up =
+  started_closed : (fs rs : List ℕ) → Started hs fs → ((a : ℕ) → a < length hs → tail_of hs a < length fs) → Closed rs fs
+  started_closed fs rs st tails a ain low past wide up =
       let e = st.start (tail_of hs a) (tails a ain) in
       let b = before_past hs (tail_of hs a) a refl (length hs) ain in
       absurd (let n : ⊥ = omega arith in n)
@@ -202,10 +202,10 @@ module _ (hs ls : List ℕ) (sink top : ℕ) (at_top : get_or ls sink 0 ≡ top)
       elim (cases_eq o.2 lim) [
         | inl e ↦
             let one = la.first in
-            let i = pushes-idle (top - 1) source lim rs fs (omega arith) lpos (started-closed fs rs st tails) e in
+            let i = pushes_idle (top - 1) source lim rs fs (omega arith) lpos (started_closed fs rs st tails) e in
             let back : suc (top - 1) ≡ top = omega arith in
-            let f : Free o.1 (suc (top - 1)) = record { point = sink; level = at_top ∙ sym back; free = λ b. b.not-sink refl } in
-            let g = free-first source rs o.1 la i.closed (top - 1) (omega arith) f in
+            let f : Free o.1 (suc (top - 1)) = record { point = sink; level = at_top ∙ sym back; free = λ b. b.not_sink refl } in
+            let g = free_first source rs o.1 la i.closed (top - 1) (omega arith) f in
             absurd (g.free (subst (Blocked o.1) (sym (la.least g.point g.level)) i.blocked))
         | inr ne ↦ omega arith
       ]

@@ -21,10 +21,10 @@ module _ (hs ls : List ℕ) (P : ℕ → ℕ → List ℕ → List ℕ → Out) 
       ]
 
   -- arc k is not apt
-  scans-none : (at left : ℕ) (rs cs : List ℕ) → 0 < at → apt hs ls v lv (at - 1) rs ≡ false → scans hs ls P v lv at left rs cs ≡ scans hs ls P v lv (at - 1) left rs cs
+  scans_none : (at left : ℕ) (rs cs : List ℕ) → 0 < at → apt hs ls v lv (at - 1) rs ≡ false → scans hs ls P v lv at left rs cs ≡ scans hs ls P v lv (at - 1) left rs cs
   unfolding scans
-  scans-none zero left rs cs = λ h e. absurd (let z : ⊥ = omega arith in z)
-  scans-none (suc k) left rs cs = let one : suc k - 1 ≡ k = omega arith in rw one (λ h e. cond-false _ _ _ e)
+  scans_none zero left rs cs = λ h e. absurd (let z : ⊥ = omega arith in z)
+  scans_none (suc k) left rs cs = let one : suc k - 1 ≡ k = omega arith in rw one (λ h e. cond-false _ _ _ e)
 
   scans_some : (at left : ℕ) (rs cs : List ℕ) → 0 < at → apt hs ls v lv (at - 1) rs ≡ true → scans hs ls P v lv at left rs cs ≡ taken v (at - 1) left (min left (get_or rs (at - 1) 0)) (P (head_of hs (at - 1)) (min left (get_or rs (at - 1) 0)) rs cs) (λ l r c. scans hs ls P v lv (at - 1) l r c)
   unfolding scans
@@ -33,16 +33,16 @@ module _ (hs ls : List ℕ) (P : ℕ → ℕ → List ℕ → List ℕ → Out) 
 
   module _ (ns : List ℕ) (n at left : ℕ) (rs cs : List ℕ) (c : Chained hs ns n) (p : Place hs v at) (h : 0 < at) where
     -- what is left of the chain, by the code's next
-    on-next : (l : ℕ) (r s : List ℕ) → scans hs ls P v lv (at - 1) l r s ≡ scans hs ls P v lv (get_or ns (at - 1) 0) l r s
-    on-next l r s = scans_skip (at - 1) l r s ∙ ap (λ (x : ℕ). scans hs ls P v lv x l r s) (sym (follow v at c p h))
+    on_next : (l : ℕ) (r s : List ℕ) → scans hs ls P v lv (at - 1) l r s ≡ scans hs ls P v lv (get_or ns (at - 1) 0) l r s
+    on_next l r s = scans_skip (at - 1) l r s ∙ ap (λ (x : ℕ). scans hs ls P v lv x l r s) (sym (follow v at c p h))
 
     pub scans_shut : get_or rs (at - 1) 0 ≤ 0 → scans hs ls P v lv at left rs cs ≡ scans hs ls P v lv (get_or ns (at - 1) 0) left rs cs
     unfolding apt
-    scans_shut z = scans-none at left rs cs h (and_right (eqb (tail_of hs (at - 1)) v) _ (and_left (ltb 0 (get_or rs (at - 1) 0)) _ (le-ltb 0 (get_or rs (at - 1) 0) z))) ∙ on-next left rs cs
+    scans_shut z = scans_none at left rs cs h (and_right (eqb (tail_of hs (at - 1)) v) _ (and_left (ltb 0 (get_or rs (at - 1) 0)) _ (le-ltb 0 (get_or rs (at - 1) 0) z))) ∙ on_next left rs cs
 
     pub scans_off : (get_or ls (head_of hs (at - 1)) 0 ≡ lv → ⊥) → scans hs ls P v lv at left rs cs ≡ scans hs ls P v lv (get_or ns (at - 1) 0) left rs cs
     unfolding apt
-    scans_off z = scans-none at left rs cs h (and_right (eqb (tail_of hs (at - 1)) v) _ (and_right (ltb 0 (get_or rs (at - 1) 0)) _ (ne_eqb (get_or ls (head_of hs (at - 1)) 0) lv z))) ∙ on-next left rs cs
+    scans_off z = scans_none at left rs cs h (and_right (eqb (tail_of hs (at - 1)) v) _ (and_right (ltb 0 (get_or rs (at - 1) 0)) _ (ne_eqb (get_or ls (head_of hs (at - 1)) 0) lv z))) ∙ on_next left rs cs
 
     module _ (rs' cs' : List ℕ) (got : ℕ) (wide : 0 < get_or rs (at - 1) 0) (up : get_or ls (head_of hs (at - 1)) 0 ≡ lv)
         (less : got ≤ min left (get_or rs (at - 1) 0)) (e : P (head_of hs (at - 1)) (min left (get_or rs (at - 1) 0)) rs cs ≡ (rs', cs', min left (get_or rs (at - 1) 0) - got)) where
@@ -62,7 +62,7 @@ module _ (hs ls : List ℕ) (P : ℕ → ℕ → List ℕ → List ℕ → Out) 
           goes ∙ cond-true _ _ _ (eq-eqb _ _ z) ∙ ap (λ (x : ℕ). (moved rs' (at - 1) got, set cs' v x, 0)) back
 
       pub scans_more : (left - got ≡ 0 → ⊥) → scans hs ls P v lv at left rs cs ≡ scans hs ls P v lv (get_or ns (at - 1) 0) (left - got) (moved rs' (at - 1) got) cs'
-      scans_more z = goes ∙ cond-false _ _ _ (ne_eqb _ _ z) ∙ on-next (left - got) (moved rs' (at - 1) got) cs'
+      scans_more z = goes ∙ cond-false _ _ _ (ne_eqb _ _ z) ∙ on_next (left - got) (moved rs' (at - 1) got) cs'
 
 -- what holds after the call in a push
 pub record After (hs ns ls : List ℕ) (a got : ℕ) (rs' cs' : List ℕ) : Type 0 where

@@ -1,4 +1,6 @@
 // Runs the proved checks on the worked examples, on damaged answers to them, and on what solvers answer.
+#![tactic(auto)]
+
 mod networks;
 
 use checkers::{is_cut, is_feasible, is_right};

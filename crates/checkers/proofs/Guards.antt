@@ -1,5 +1,5 @@
 -- A test behind another: the first guards the second.
-use Rattle.std.proofs.Common.{◌≡◌, Bool, true, false, Decides, sym, refl, ◌∙◌}
+use Rattle.std.proofs.Common.{◌≡◌, Bool, true, false, Decides, sym, ◌∙◌}
 use mathlib.Core.Bool.{false≢true}
 
 module _ {A F : Type 0} (a f : Bool) (first : Decides a A) (second : Decides f F) where

@@ -1,7 +1,7 @@
 // The checks that every solver makes before it solves, in the order of the refusals' numbers.
 ghost use Rattle.std.specs.Prelude.{◌≡◌, ◌*◌, ◌≤◌, not, ◌&&◌, length, is_some, is_ok, vec_len, Decides, ◌==◌};
 ghost use Rattle.drawing.specs.Counts.{sum_to, some_to, count_to, only, nth};
-ghost use Rattle.drawing.specs.Drawings.{no_point, no_run, is_link, is_rack, is_bar, limit_of, is_admissible, units as unitsOf, uses};
+ghost use Rattle.drawing.specs.Drawings.{no_point, no_run, is_link, is_rack, is_bar, limit_of, is_admissible, units as units_of, uses};
 ghost use Rattle.drawing.specs.Records.{network};
 ghost use Rattle.drawing.specs.Solvers.{Carried, says_yes, lacks, first_lacking, is_within, refusal_of, refusal, told};
 ghost use Rattle.drawing.specs.declared.Feature.TheVariants.{LowerBounds, Links, Limits, Terminals};
@@ -109,7 +109,7 @@ fn limits(points: &[Point]) -> u64
 fn sum_of_units(d: &Drawing) -> u64
     requires points { vec_len d.now.points ≤ 128 }
     requires runs { vec_len d.now.runs ≤ 1024 }
-    ensures { result ≡ unitsOf (network d.now) }
+    ensures { result ≡ units_of (network d.now) }
 {
     uppers(d.runs.as_slice()) + limits(d.points.as_slice())
 }

@@ -2,7 +2,7 @@
 ghost use Rattle.std.specs.Prelude.{◌≡◌, ◌+◌, ◌*◌, ◌<◌, ◌≤◌, true, ◌&&◌, length, pos, ◌-ℤ◌, vec_len, Decides};
 ghost use Rattle.drawing.specs.Counts.{sum_to, some_to, every_to, only, nth};
 ghost use Rattle.drawing.specs.Drawings.{no_point, no_run, Admissible, is_admissible};
-ghost use Rattle.drawing.specs.Labels.{label as label_of, is_near, is_tight, is_far, adds as addedBy, deducts as deductedBy, worth as worthOf, far_rack, near_bar, Cut, Shortage};
+ghost use Rattle.drawing.specs.Labels.{label as label_of, is_near, is_tight, is_far, adds as added_by, deducts as deducted_by, worth as worth_of, far_rack, near_bar, Cut, Shortage};
 ghost use Rattle.drawing.specs.Tests.{is_labelling, is_cut, is_shortage};
 ghost use Rattle.drawing.specs.Records.{network};
 ghost use Rattle.checkers.specs.Told.{run_adds, run_deducts, point_adds, tight_allowed, rack_far, bar_near, told_worth};
@@ -51,7 +51,7 @@ fn is_far(l: Label) -> bool
 
 // What a run from label a to label b adds to the worth.
 fn adds(kind: Kind, a: Label, b: Label, upper: u32) -> u32
-    ensures { result ≡ addedBy kind a b upper }
+    ensures { result ≡ added_by kind a b upper }
 {
     match (kind, a, b) {
         (Kind::Lead, Label::Near, Label::Far) => upper,
@@ -63,7 +63,7 @@ fn adds(kind: Kind, a: Label, b: Label, upper: u32) -> u32
 
 // What it takes away.
 fn deducts(kind: Kind, a: Label, b: Label, lower: u32) -> u32
-    ensures { result ≡ deductedBy kind a b lower }
+    ensures { result ≡ deducted_by kind a b lower }
 {
     match (kind, a, b) {
         (Kind::Lead, Label::Tight | Label::Far, Label::Near | Label::Tight) => lower,
@@ -151,7 +151,7 @@ pub(crate) fn sum_of_worth(d: &Drawing, labels: &[Label]) -> i64
     requires points { vec_len d.now.points ≤ 128 }
     requires runs { vec_len d.now.runs ≤ 1024 }
     requires same { length labels.now ≡ vec_len d.now.points }
-    ensures { result ≡ worthOf (network d.now) labels.now }
+    ensures { result ≡ worth_of (network d.now) labels.now }
 {
     let added = crossing(labels, d.runs.as_slice()) + throttled(labels, d.points.as_slice());
     let taken = forced(labels, d.runs.as_slice());

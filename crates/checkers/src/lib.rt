@@ -1,4 +1,6 @@
 // Run-time checks: what a solver asks of a drawing before it solves, and what a caller can check of an answer.
+#![tactic(auto)]
+
 mod admission;
 mod answers;
 mod labels;

@@ -2,7 +2,7 @@
 ghost use Rattle.std.specs.Prelude.{◌≡◌, ◌+◌, ◌*◌, ◌<◌, ◌≤◌, true, length, pos, vec_len, Decides};
 ghost use Rattle.drawing.specs.Counts.{sum_to, every_to, only, nth};
 ghost use Rattle.drawing.specs.Drawings.{no_run, Admissible, is_admissible};
-ghost use Rattle.drawing.specs.Plans.{forth as carriedForth, back as carriedBack, brings as broughtBy, takes as takenBy, plan_of, sum_of, Feasible};
+ghost use Rattle.drawing.specs.Plans.{forth as carried_forth, back as carried_back, brings as brought_by, takes as taken_by, plan_of, sum_of, Feasible};
 ghost use Rattle.drawing.specs.Tests.{is_in_range, is_under, is_shaped, is_feasible};
 ghost use Rattle.drawing.specs.Records.{network};
 ghost use Rattle.checkers.specs.Told.{ranges_in, kept_at, kept_in, told_total};
@@ -12,14 +12,14 @@ use drawing::{Drawing, Kind, Point, Run};
 
 // What a flow carries from tail to head.
 fn forth(f: i32) -> u32
-    ensures { result ≡ carriedForth f }
+    ensures { result ≡ carried_forth f }
 {
     if f > 0 { f.unsigned_abs() } else { 0 }
 }
 
 // What it carries from head to tail.
 fn back(f: i32) -> u32
-    ensures { result ≡ carriedBack f }
+    ensures { result ≡ carried_back f }
 {
     if f < 0 { f.unsigned_abs() } else { 0 }
 }
@@ -33,7 +33,7 @@ fn only_if(b: bool, x: u32) -> u64
 
 // What a run with flow f brings into the point v.
 fn brings(r: Run, f: i32, v: usize) -> u64
-    ensures value { result ≡ broughtBy r f v }
+    ensures value { result ≡ brought_by r f v }
     ensures bound { result ≤ 8589934590 }
 {
     only_if(r.head == v, forth(f)) + only_if(r.tail == v, back(f))
@@ -41,7 +41,7 @@ fn brings(r: Run, f: i32, v: usize) -> u64
 
 // What it takes out of the point v.
 fn takes(r: Run, f: i32, v: usize) -> u64
-    ensures value { result ≡ takenBy r f v }
+    ensures value { result ≡ taken_by r f v }
     ensures bound { result ≤ 8589934590 }
 {
     only_if(r.tail == v, forth(f)) + only_if(r.head == v, back(f))
@@ -60,7 +60,7 @@ fn is_in_range(kind: Kind, lower: u32, upper: u32, f: i32) -> bool
 fn entering(runs: &[Run], flows: &[i32], v: usize) -> u64
     requires few { length runs.now ≤ 1024 }
     requires same { length flows.now ≡ length runs.now }
-    ensures value { result ≡ sum_to (length runs.now) (λ k. broughtBy (nth runs.now k no_run) (nth flows.now k (pos 0)) v) }
+    ensures value { result ≡ sum_to (length runs.now) (λ k. brought_by (nth runs.now k no_run) (nth flows.now k (pos 0)) v) }
     ensures bound { result ≤ 1024 * 8589934590 }
 {
     let mut sum: u64 = 0;
@@ -74,7 +74,7 @@ fn entering(runs: &[Run], flows: &[i32], v: usize) -> u64
 fn leaving(runs: &[Run], flows: &[i32], v: usize) -> u64
     requires few { length runs.now ≤ 1024 }
     requires same { length flows.now ≡ length runs.now }
-    ensures value { result ≡ sum_to (length runs.now) (λ k. takenBy (nth runs.now k no_run) (nth flows.now k (pos 0)) v) }
+    ensures value { result ≡ sum_to (length runs.now) (λ k. taken_by (nth runs.now k no_run) (nth flows.now k (pos 0)) v) }
     ensures bound { result ≤ 1024 * 8589934590 }
 {
     let mut sum: u64 = 0;

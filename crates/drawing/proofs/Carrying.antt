@@ -1,12 +1,11 @@
 -- A drawing is refused by a solver exactly when it is not carried.
-use Rattle.std.proofs.Common.{◌≡◌, ℕ, ◌≤◌, Bool, true, false, cond, not, ◌&&◌, leb, Some, None, Option, sym, refl, ap, ◌∙◌, arith}
+use Rattle.std.proofs.Common.{◌≡◌, ℕ, Bool, true, false, cond, not, ◌&&◌, Some, None, Option, refl, ap, arith}
 use Rattle.std.proofs.lemmas.Bool.{leb-true, le-leb, and_parts, and_from}
 use Rattle.drawing.specs.declared.Feature.{Feature}
 use Rattle.drawing.specs.declared.Feature.TheVariants.{LowerBounds, Links, Limits, Terminals}
-use Rattle.drawing.specs.declared.Refusal.{Refusal}
 use Rattle.drawing.specs.declared.Refusal.TheVariants.{BrokenDrawing, Unsupported, TooLarge}
 use Rattle.drawing.specs.declared.Statements.{Statements}
-use Rattle.drawing.specs.Drawings.{Network, point_count, run_count, is_admissible, units as unitsOf, uses}
+use Rattle.drawing.specs.Drawings.{Network, is_admissible, uses}
 use Rattle.drawing.specs.Solvers.{Carried, says_yes, lacks, is_within, code_of, refusal}
 use Rattle.drawing.proofs.Deciding.{decides_admissible}
 

@@ -1,20 +1,20 @@
 -- Each test decides what it tests.
-use Rattle.std.proofs.Common.{◌≡◌, ℕ, zero, suc, ◌+◌, ◌<◌, ◌≤◌, Bool, true, false, not, ◌&&◌, ◌||◌, T, eqb, ltb, leb, ◌≢◌, ◌⊎◌, List, length, ℤ, pos, negsuc, nat_abs, ◌≤ℤ◌, ◌<ℤ◌, is_some, Some, None, Decides, Option, sym, refl, ap, ◌∙◌, subst, inl, inr, ⊎_elim, arith}
+use Rattle.std.proofs.Common.{◌≡◌, ℕ, zero, suc, ◌+◌, Bool, true, false, not, ◌||◌, eqb, List, ℤ, pos, ◌<ℤ◌, is_some, Some, None, Decides, Option, refl, ap, ◌∙◌, ⊎_elim, arith}
 use mathlib.Core.Bool.{false≢true}
-use lib.Signed.{le_z, lt_z}
+use lib.Signed.{lt_z}
 use Rattle.std.proofs.lemmas.Int.{ints}
 use Rattle.std.proofs.lemmas.Bool.{and_parts, and_from, leb-true, le-leb, eqb-true, eq-eqb, ne_eqb, cases_eq, not-true, not_from_false, true≢false}
-use Rattle.std.proofs.lemmas.Bool.Decides.{nat_tests, Decides-and, Decides-eqb, Decides-like}
+use Rattle.std.proofs.lemmas.Bool.Decides.{nat_tests}
 use Rattle.drawing.specs.declared.Kind.{Kind}
 use Rattle.drawing.specs.declared.Kind.TheVariants.{Lead, Link}
 use Rattle.drawing.specs.declared.Run.{Run}
 use Rattle.drawing.specs.declared.Label.{Label}
 use Rattle.drawing.specs.Counts.{Within, every_to}
-use Rattle.drawing.specs.Drawings.{Network, Lawful, LawfulRun, Admissible, point_count, run_count, point, run, is_rack, is_bar, is_link, is_lawful_run, is_lawful, is_admissible}
-use Rattle.drawing.specs.Plans.{Plan, Feasible, InRange, Under, flow, supply, delivery, entering, leaving, total}
-use Rattle.drawing.specs.Labels.{is_tight, label, Labelling, worth, far_rack, near_bar, Cut, Shortage}
+use Rattle.drawing.specs.Drawings.{Network, Lawful, LawfulRun, Admissible, point_count, run_count, point, run, is_rack, is_bar, is_lawful_run, is_lawful, is_admissible}
+use Rattle.drawing.specs.Plans.{Plan, Feasible, InRange, Under, flow, supply, delivery, entering, leaving}
+use Rattle.drawing.specs.Labels.{is_tight, label, Labelling, worth, Cut, Shortage}
 use Rattle.drawing.specs.Answers.{Answer, Planned, Short, Right}
-use Rattle.drawing.specs.Tests.{same_z, is_shaped, is_in_range, is_under, is_kept, is_feasible, is_labelling, is_cut, is_shortage, is_right}
+use Rattle.drawing.specs.Tests.{same_z, is_in_range, is_under, is_kept, is_feasible, is_labelling, is_cut, is_shortage, is_right}
 use Rattle.drawing.proofs.Sums.{earlier, last}
 
 -- a test that holds at each of 1 .. n

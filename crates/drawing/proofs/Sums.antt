@@ -1,7 +1,7 @@
 -- Laws of `sum_to`.
-use Rattle.std.proofs.Common.{◌≡◌, ℕ, zero, suc, ◌+◌, ◌<◌, ◌≤◌, Bool, true, false, eqb, ◌⊎◌, sym, refl, ap, ◌∙◌, ap₂, inl, inr, ⊎_elim, arith}
+use Rattle.std.proofs.Common.{◌≡◌, ℕ, zero, suc, ◌+◌, ◌≤◌, Bool, true, false, eqb, sym, refl, ap, ◌∙◌, ap₂, ⊎_elim, arith}
 use Rattle.std.proofs.lemmas.Bool.{cases_eq, eq-eqb, ne_eqb}
-use Rattle.drawing.specs.Counts.{Within, sum_to, some_to, only}
+use Rattle.drawing.specs.Counts.{Within, sum_to, only}
 
 -- what holds at 1 .. n + 1 holds at 1 .. n and at n + 1
 pub earlier : {n k : ℕ} → Within n k → Within (suc n) k
@@ -62,17 +62,17 @@ module _ (n w x : ℕ) (s : ℕ → Bool) where
   abbrev tested : ℕ → ℕ
   tested v = only (s v) (only (eqb w v) x)
 
-  pick-last : w ≡ suc n → sum_to (suc n) tested ≡ only (s w) x
-  pick-last e =
+  pick_last : w ≡ suc n → sum_to (suc n) tested ≡ only (s w) x
+  pick_last e =
       omega (arith, sum_none n tested (λ k i. miss (s k) w k x (λ q. omega arith)), hit (s (suc n)) w (suc n) x e, ap (λ t. only (s t) x) e)
 
-  pick-before : sum_to n tested ≡ only (s w) x → (w ≡ suc n → ⊥) → sum_to (suc n) tested ≡ only (s w) x
-  pick-before ih ne = omega (arith, ih, miss (s (suc n)) w (suc n) x ne)
+  pick_before : sum_to n tested ≡ only (s w) x → (w ≡ suc n → ⊥) → sum_to (suc n) tested ≡ only (s w) x
+  pick_before ih ne = omega (arith, ih, miss (s (suc n)) w (suc n) x ne)
 
 pub sum_pick : (n w x : ℕ) (s : ℕ → Bool) → Within n w → sum_to n (λ v. only (s v) (only (eqb w v) x)) ≡ only (s w) x
 sum_pick zero w x s h = omega arith
 sum_pick (suc n) w x s h =
-    ⊎_elim (pick-last n w x s) (λ ne. pick-before n w x s (sum_pick n w x s (omega arith)) ne) (cases_eq w (suc n))
+    ⊎_elim (pick_last n w x s) (λ ne. pick_before n w x s (sum_pick n w x s (omega arith)) ne) (cases_eq w (suc n))
 
 -- the sum over the points of what the runs bring to them, at the points that pass the test s: each run brings x to h and y to t
 spread : (n h t x y : ℕ) (s : ℕ → Bool) → Within n h → Within n t
@@ -92,11 +92,11 @@ gather n m h t x y s ih it =
 -- the one term at v
 pub sum_at : (n v : ℕ) (f : ℕ → ℕ) → Within n v → sum_to n (λ u. only (eqb u v) (f u)) ≡ f v
 sum_at zero v f w = omega arith
-sum_at (suc n) v f w = ⊎_elim (at_last n v f) (λ ne. at-earlier n v f (sum_at n v f (omega arith)) ne) (cases_eq v (suc n))
+sum_at (suc n) v f w = ⊎_elim (at_last n v f) (λ ne. at_earlier n v f (sum_at n v f (omega arith)) ne) (cases_eq v (suc n))
   where
     at_last : (n v : ℕ) (f : ℕ → ℕ) → v ≡ suc n → sum_to (suc n) (λ u. only (eqb u v) (f u)) ≡ f v
     at_last n v f e =
         omega (arith, sum_none n (λ u. only (eqb u v) (f u)) (λ u i. miss true u v (f u) (λ q. omega arith)), hit true (suc n) v (f (suc n)) (sym e), ap f e)
 
-    at-earlier : (n v : ℕ) (f : ℕ → ℕ) → sum_to n (λ u. only (eqb u v) (f u)) ≡ f v → (v ≡ suc n → ⊥) → sum_to (suc n) (λ u. only (eqb u v) (f u)) ≡ f v
-    at-earlier n v f ih ne = omega (arith, ih, miss true (suc n) v (f (suc n)) (λ q. ne (sym q)))
+    at_earlier : (n v : ℕ) (f : ℕ → ℕ) → sum_to n (λ u. only (eqb u v) (f u)) ≡ f v → (v ≡ suc n → ⊥) → sum_to (suc n) (λ u. only (eqb u v) (f u)) ≡ f v
+    at_earlier n v f ih ne = omega (arith, ih, miss true (suc n) v (f (suc n)) (λ q. ne (sym q)))

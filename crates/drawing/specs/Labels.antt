@@ -1,5 +1,5 @@
 -- Labellings, their worth, cuts and shortages.
-use Rattle.std.specs.Prelude.{◌≡◌, ℕ, ◌+◌, Bool, true, false, not, ◌&&◌, ◌||◌, List, length, ℤ, pos, ◌-ℤ◌, ◌<ℤ◌, is_some}
+use Rattle.std.specs.Prelude.{◌≡◌, ℕ, ◌+◌, Bool, true, false, ◌&&◌, ◌||◌, List, length, ℤ, pos, ◌-ℤ◌, ◌<ℤ◌, is_some}
 use Rattle.drawing.specs.declared.Kind.{Kind}
 use Rattle.drawing.specs.declared.Kind.TheVariants.{Lead, Link}
 use Rattle.drawing.specs.declared.Label.{Label}

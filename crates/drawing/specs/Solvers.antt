@@ -1,5 +1,5 @@
 -- What a solver states, which drawings it carries, and what a solve does.
-use Rattle.std.specs.Prelude.{◌≡◌, ℕ, ◌≤◌, Bool, true, false, cond, not, ◌&&◌, Some, None, Ok, Err, Option, Result, nat_le}
+use Rattle.std.specs.Prelude.{◌≡◌, ℕ, ◌≤◌, Bool, true, cond, not, ◌&&◌, Some, None, Ok, Err, Option, Result, nat_le}
 use Rattle.drawing.specs.declared.Feature.{Feature}
 use Rattle.drawing.specs.declared.Feature.TheVariants.{LowerBounds, Links, Limits, Terminals}
 use Rattle.drawing.specs.declared.Refusal.{Refusal}

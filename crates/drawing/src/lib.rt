@@ -1,4 +1,6 @@
 // Drawings, answers to them, and what a solver is.
+#![tactic(auto)]
+
 pub mod codes;
 pub mod lending;
 pub mod record;

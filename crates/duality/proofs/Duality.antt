@@ -67,10 +67,10 @@ module _ (d : Network) (lawful : Lawful d) (p : Plan) (ok : Feasible d p) where
     within : ℕ → Bool
     within v = inside (label ls v)
 
-    by-points : sum_to (point_count d) (λ v. only (within v) (entering d p v)) + supplied
+    by_points : sum_to (point_count d) (λ v. only (within v) (entering d p v)) + supplied
         ≤ sum_to (point_count d) (λ v. only (near v) (leaving d p v)) + served + throttled d ls
     unfolding near within
-    by-points =
+    by_points =
         let n = point_count d in
         let inn : ℕ → ℕ = λ v. only (within v) (entering d p v) in
         let sup : ℕ → ℕ = λ v. only (within v) (supply p v) in
@@ -95,14 +95,14 @@ module _ (d : Network) (lawful : Lawful d) (p : Plan) (ok : Feasible d p) where
         omega (arith, each, sum_plus m a b, sum_plus m e f)
 
     bounded : supplied + forced d ls ≤ served + (crossing d ls + throttled d ls)
-    bounded = omega (arith, by-points, by_runs, entered within, left near)
+    bounded = omega (arith, by_points, by_runs, entered within, left near)
 
     -- with no far rack all supplies are within, with no near bar nothing is delivered near
-    all-supplied : far_rack d ls ≡ false → supplied ≡ sum_to (point_count d) (supply p)
-    all-supplied e = sum_same (point_count d) _ (supply p) (λ v w. kept (is_rack (point d v).mark) (is_far (label ls v)) (supply p v) (ok.racks_supply v w) (none_to (point_count d) _ e v w))
+    all_supplied : far_rack d ls ≡ false → supplied ≡ sum_to (point_count d) (supply p)
+    all_supplied e = sum_same (point_count d) _ (supply p) (λ v w. kept (is_rack (point d v).mark) (is_far (label ls v)) (supply p v) (ok.racks_supply v w) (none_to (point_count d) _ e v w))
 
-    none-served : near_bar d ls ≡ false → served ≡ 0
-    none-served e = sum_none (point_count d) _ (λ v w. dropped (is_bar (point d v).mark) (is_near (label ls v)) (delivery p v) (ok.bars_deliver v w) (none_to (point_count d) _ e v w))
+    none_served : near_bar d ls ≡ false → served ≡ 0
+    none_served e = sum_none (point_count d) _ (λ v w. dropped (is_bar (point d v).mark) (is_near (label ls v)) (delivery p v) (ok.bars_deliver v w) (none_to (point_count d) _ e v w))
 
 -- the total of a plan that is feasible, as a sum over the drawing's points
 pub total_is : (d : Network) (p : Plan) → Feasible d p → total p ≡ sum_to (point_count d) (supply p)
@@ -110,15 +110,15 @@ total_is d p ok = ap (λ n. sum_to n (supply p)) ok.supply_count
 
 pub weak_duality : WeakDuality
 weak_duality d lawful p ok ls cut =
-    omega (arith, ints, total_is d p ok, bounded d lawful p ok ls cut.labelled, all-supplied d lawful p ok ls cut.labelled cut.no_far_rack, none-served d lawful p ok ls cut.labelled cut.no_near_bar)
+    omega (arith, ints, total_is d p ok, bounded d lawful p ok ls cut.labelled, all_supplied d lawful p ok ls cut.labelled cut.no_far_rack, none_served d lawful p ok ls cut.labelled cut.no_near_bar)
 
 pub shortage_excludes : ShortageExcludes
 shortage_excludes d lawful ls short p ok =
     let all = bounded d lawful p ok ls short.labelled in
     let served-≤ : served d lawful p ok ls short.labelled ≤ sum_to (point_count d) (delivery p) = served_part (point_count d) (λ v. is_near (label ls v)) (delivery p) in
     ⊎_elim
-    (λ (e : far_rack d ls ≡ false). omega (arith, ints, all, short.negative, all-supplied d lawful p ok ls short.labelled e, delivered d lawful p ok, served-≤))
-    (λ (e : near_bar d ls ≡ false). omega (arith, ints, all, short.negative, none-served d lawful p ok ls short.labelled e))
+    (λ (e : far_rack d ls ≡ false). omega (arith, ints, all, short.negative, all_supplied d lawful p ok ls short.labelled e, delivered d lawful p ok, served-≤))
+    (λ (e : near_bar d ls ≡ false). omega (arith, ints, all, short.negative, none_served d lawful p ok ls short.labelled e))
     (and_cases (far_rack d ls) (near_bar d ls) short.not_both)
 
 pub right_is_most : RightIsMost

@@ -31,18 +31,18 @@ worth_told d ls ok marked = taken _ (worth d ls) (and_from _ _ ((decides_admissi
 
 module _ (d : Network) (p : Plan) (ls : List Label) (ok : Admissible d) (feasible : Feasible d p) (cut : Cut d ls) (t : ℕ) (w : ℤ)
     (told : told_total d p.supplies ≡ Some t) (worthy : told_worth d ls ≡ Some w) where
-  total-is-told : total p ≡ t
-  total-is-told = some_same (sym (total_told d p ok feasible) ∙ told)
+  total_is_told : total p ≡ t
+  total_is_told = some_same (sym (total_told d p ok feasible) ∙ told)
 
-  worth-is-told : worth d ls ≡ w
-  worth-is-told = some_same (sym (worth_told d ls ok cut.labelled) ∙ worthy)
+  worth_is_told : worth d ls ≡ w
+  worth_is_told = some_same (sym (worth_told d ls ok cut.labelled) ∙ worthy)
 
   -- a cut's worth less a plan's total is not below 0
   pub not_below : pos t ≤ℤ w
-  not_below = omega (arith, ints, weak_duality d ok.lawful p feasible ls cut, total-is-told, worth-is-told)
+  not_below = omega (arith, ints, weak_duality d ok.lawful p feasible ls cut, total_is_told, worth_is_told)
 
   pub slack_is : (s : ℕ) → w ≡ pos (t + s) → Slack d p ls (Some s)
-  slack_is s e = (ok, feasible, cut, worth-is-told ∙ e ∙ ap (λ n. pos (n + s)) (sym total-is-told))
+  slack_is s e = (ok, feasible, cut, worth_is_told ∙ e ∙ ap (λ n. pos (n + s)) (sym total_is_told))
 
 pub not_none : {A : Type 0} {o : Option A} {x : A} → o ≡ None → o ≡ Some x → ⊥
 not_none p q = let z : ◌≡◌ {A = ℕ} 0 1 = cc in omega arith

@@ -1,6 +1,6 @@
 -- Eight small drawings, each with a right answer and the number told with it.
 use Rattle.std.specs.Prelude.{◌≡◌, ℕ, zero, suc, List, [], ◌∷◌, ℤ, pos, negsuc, Some, None, Option}
-use Rattle.std.specs.List.{AllByRecursion as All, slice_get}
+use Rattle.std.specs.List.{AllByRecursion, slice_get}
 use Rattle.drawing.specs.declared.Mark.{Mark}
 use Rattle.drawing.specs.declared.Mark.TheVariants.{Plain, Rack, Bar}
 use Rattle.drawing.specs.declared.Point.{Point}
@@ -98,7 +98,7 @@ abbrev pub Shown : Example → Type 0
 Shown e = Lawful e.drawing × Right e.drawing e.answer × (figure e.drawing e.answer ≡ e.told)
 
 abbrev pub ExamplesStand : Type 0
-ExamplesStand = All Shown examples
+ExamplesStand = AllByRecursion Shown examples
 
 -- the k-th of them, counted from 1
 abbrev pub example_at : ℕ → Option Example

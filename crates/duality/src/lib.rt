@@ -1,4 +1,6 @@
 // What cuts and shortages say of plans, of two answers to one drawing, and of the worked examples.
+#![tactic(auto)]
+
 ghost use Rattle.std.specs.Prelude.{◌≡◌, ◌+◌, true, pos, ◌≤ℤ◌, Decides};
 ghost use Rattle.drawing.specs.Drawings.{Network, Lawful, Admissible};
 ghost use Rattle.drawing.specs.Labels.{Shortage};

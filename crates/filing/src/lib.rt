@@ -1,4 +1,6 @@
 // What a solver reads of a drawing besides its runs, and the answer that it writes into a record.
+#![tactic(auto)]
+
 mod marks;
 mod records;
 

@@ -1,5 +1,5 @@
 -- What the questions read of a rig's drawing and record is what the ledger tells.
-use Rattle.std.proofs.Common.{◌≡◌, ℕ, zero, suc, ◌-◌, ◌<◌, ◌≤◌, Bool, true, false, cond, ◌&&◌, leb, ◌⊎◌, List, length, get_or, ℤ, nat_abs, Some, vec_items, Result, sym, refl, ap, ◌∙◌, subst, inl, inr, arith}
+use Rattle.std.proofs.Common.{◌≡◌, ℕ, ◌-◌, ◌<◌, ◌≤◌, true, ◌&&◌, leb, ◌⊎◌, List, length, get_or, ℤ, nat_abs, Some, vec_items, Result, sym, refl, ap, ◌∙◌, subst, inl, inr}
 use Rattle.std.proofs.lemmas.List.{get_or_default}
 use Rattle.std.proofs.lemmas.Bool.{and_from, le-leb, cond-true}
 use Rattle.drawing.specs.declared.Label.{Label}
@@ -7,7 +7,7 @@ use Rattle.drawing.specs.declared.Refusal.{Refusal}
 use Rattle.drawing.specs.declared.Run.{Run}
 use Rattle.drawing.specs.declared.record.Record.{Record}
 use Rattle.drawing.specs.Counts.{nth}
-use Rattle.drawing.specs.Drawings.{Network, point_count, run_count, run, no_run}
+use Rattle.drawing.specs.Drawings.{Network, point_count, run_count, run}
 use Rattle.drawing.specs.Plans.{flow}
 use Rattle.drawing.specs.Labels.{label, Shortage}
 use Rattle.drawing.specs.Answers.{Answer, Planned, Short, Right}
@@ -17,7 +17,7 @@ use Rattle.rig_drawing.proofs.Places.{nth_get_or}
 use Rattle.sheet.specs.Columns.{writing_tells, writing_leaves}
 use Rattle.sheet.specs.Sheets.{sheet_text}
 use Rattle.ledger.specs.declared.Standing.{Standing}
-use Rattle.ledger.specs.declared.Standing.TheVariants.{Drawn as IsDrawn, Planned as IsPlanned, Short as IsShort}
+use Rattle.ledger.specs.declared.Standing.TheVariants.{Planned as IsPlanned, Short as IsShort}
 use Rattle.ledger.specs.Endings.{ending_of, is_sound}
 use Rattle.ledger.specs.Ledgers.{question, label_of, usage, sheet, reply_of, labelled, carries, written, tell, tell_ending, leave}
 use Rattle.ledger.proofs.Ending.{sound_planned, sound_short}

@@ -1,5 +1,5 @@
 -- What a rig's standing and record say of its ending.
-use Rattle.std.proofs.Common.{◌≡◌, ℕ, Bool, true, false, ◌&&◌, Some, None, vec_items, Option, sym, refl, ap, ◌∙◌, subst, arith}
+use Rattle.std.proofs.Common.{◌≡◌, ℕ, true, Some, vec_items, sym, refl, ap, ◌∙◌, subst, arith}
 use Rattle.std.proofs.lemmas.Bool.{and_parts, and_from}
 use Rattle.drawing.specs.declared.Verdict.{Verdict}
 use Rattle.drawing.specs.declared.Verdict.TheVariants.{Plan as PlanVerdict, Shortage as ShortageVerdict}
@@ -11,7 +11,7 @@ use Rattle.drawing.specs.Records.{plan_in, answer_in, Contents, contents, filed}
 use Rattle.drawing.specs.Tests.{is_right}
 use Rattle.drawing.proofs.Deciding.{decides_right}
 use Rattle.ledger.specs.declared.Standing.{Standing}
-use Rattle.ledger.specs.declared.Standing.TheVariants.{Drawn as IsDrawn, Planned as IsPlanned, Short as IsShort}
+use Rattle.ledger.specs.declared.Standing.TheVariants.{Planned as IsPlanned, Short as IsShort}
 use Rattle.ledger.specs.Endings.{ending_of, is_plan_verdict, is_shortage_verdict, keeps_plan, keeps_shortage, is_sound, standing_by}
 
 pub sound_same : (d e : Network) (s : Standing) (r : Record) → e ≡ d → is_sound d s r ≡ true → is_sound e s r ≡ true

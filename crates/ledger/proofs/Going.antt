@@ -28,13 +28,13 @@ going_more {C} ask l calls i told nows m go e c d r n len lt at_i said left held
     let rest : drop i calls ≡ c ∷ drop (i + 1) calls = cc in
     let back : drop (i + 1) nows ≡ drop (i + 1) calls = cc in
     let p = ap (λ (x : List C). replies m (map ask x)) rest in
-    let told-next : replies m (map ask (drop i calls)) ≡ r ∷ replies n (map ask (drop (i + 1) calls)) = cc in
+    let told_next : replies m (map ask (drop i calls)) ≡ r ∷ replies n (map ask (drop (i + 1) calls)) = cc in
     let q = ap (λ (x : List C). all_spent m (map ask x)) rest in
     let spent-next : all_spent m (map ask (drop i calls)) ≡ ask d ∷ all_spent n (map ask (drop (i + 1) calls)) = cc in
     let o = ap (λ (x : List C). after m (map ask x)) rest in
     let front : map ask (take (i + 1) (set nows i d)) ≡ map ask (take i nows) ++ (ask d ∷ []) = ap (map ask) (take_more_set nows i d within) ∙ map_push ask (take i nows) d in
     record {
-      told_so_far = go.told_so_far ∙ (ap (λ x. told ++ x) told-next ∙ (sym (append_assoc told (r ∷ []) (replies n (map ask (drop (i + 1) calls)))) ∙ ap (λ x. x ++ replies n (map ask (drop (i + 1) calls))) (sym pushed)));
+      told_so_far = go.told_so_far ∙ (ap (λ x. told ++ x) told_next ∙ (sym (append_assoc told (r ∷ []) (replies n (map ask (drop (i + 1) calls)))) ∙ ap (λ x. x ++ replies n (map ask (drop (i + 1) calls))) (sym pushed)));
       spent_so_far = go.spent_so_far ∙ (ap (λ x. map ask (take i nows) ++ x) spent-next ∙ (sym (append_assoc (map ask (take i nows)) (ask d ∷ []) (all_spent n (map ask (drop (i + 1) calls)))) ∙ ap (λ x. x ++ all_spent n (map ask (drop (i + 1) calls))) (sym front)));
       held_so_far = cc;
       untouched = drop-set-lt (i + 1) nows i d (omega arith) ∙ back;

@@ -1,13 +1,13 @@
 -- An accepted change keeps the bounds of a rig.
-use Rattle.std.proofs.Common.{◌≡◌, ℕ, ◌<◌, ◌≤◌, Bool, true, false, not, ◌&&◌, eqb, ltb, leb, ◌≢◌, length, is_some, Some, None, Option, sym, refl, ap, ◌∙◌, subst, arith}
+use Rattle.std.proofs.Common.{◌≡◌, ℕ, Bool, true, false, ◌&&◌, leb, Some, None, Option, refl, arith}
 use Rattle.std.proofs.lemmas.Bool.{and_parts, leb-true, ltb-true, eqb-false, not-true}
 use Rattle.drawing.specs.declared.Mark.{Mark}
 use Rattle.drawing.specs.declared.Refusal.{Refusal}
 use Rattle.drawing.specs.Counts.{Within}
 use Rattle.drawing.specs.Codes.{mark_of}
-use Rattle.drawing.specs.Drawings.{Network, point_count, run_count, point, run, limit_of, LawfulRun}
+use Rattle.drawing.specs.Drawings.{Network, run}
 use Rattle.rig_drawing.specs.Bounds.{Bounded}
-use Rattle.rig_drawing.specs.Changes.{check, is_point, is_run, is_range, is_limit, ranged, marked, limit_refusal, limited, lay_refusal, rerate_refusal, held_after}
+use Rattle.rig_drawing.specs.Changes.{check, is_point, ranged, marked, held_after}
 use Rattle.rig_drawing.proofs.Bounding.{point_put_bounded, run_put_bounded, run_more_bounded, small_limit, range_parts}
 use Rattle.ledger.specs.Ledgers.{Ledger, start, Change, mark, limit, lay, rerate, Request, change, solve, question, change_refusal, changed, next}
 

@@ -1,15 +1,15 @@
 -- The law over every list of calls.
-use Rattle.std.proofs.Common.{◌≡◌, ℕ, suc, List, take, Some, None, Option, sym, refl, ap, ◌∙◌, subst, arith}
+use Rattle.std.proofs.Common.{◌≡◌, ℕ, List, take, Some, None, Option, refl, ap, ◌∙◌, subst, arith}
 use Rattle.drawing.specs.declared.Refusal.{Refusal}
 use Rattle.drawing.specs.declared.Statements.{Statements}
 use Rattle.drawing.specs.Drawings.{Network}
 use Rattle.drawing.specs.Answers.{Answer, Planned, Short, Right}
-use Rattle.drawing.specs.Solvers.{Carried, refusal_of, code_of}
+use Rattle.drawing.specs.Solvers.{refusal_of, code_of}
 use Rattle.drawing.proofs.Carrying as carrying
 use Rattle.duality.proofs.Duality.{right_is_most, shortage_excludes, answers_agree}
 use Rattle.rig_drawing.specs.Bounds.{Bounded}
-use Rattle.ledger.specs.Ledgers.{Ledger, Request, solve, question, sheet, says, spent, accepted, after, replies, all_spent}
-use Rattle.ledger.specs.Law.{rig_at, Solved, Ends, Meant, Law, LawStands}
+use Rattle.ledger.specs.Ledgers.{Ledger, Request, solve, question, sheet, says, spent, accepted, replies}
+use Rattle.ledger.specs.Law.{rig_at, Solved, Ends, Meant, LawStands}
 use Rattle.ledger.proofs.Steps.{after_bounded, here, reply_said, call_spent, reply_at, solve_carried, solve_accepted, still, same_rig, not_refused_at, ending_at}
 
 ends_right : (d : Network) (e : Answer) → Bounded d → Right d e → Ends d e

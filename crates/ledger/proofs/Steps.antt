@@ -1,5 +1,5 @@
 -- A list of calls, one call after another.
-use Rattle.std.proofs.Common.{◌≡◌, ℕ, zero, suc, ◌<◌, ◌≤◌, ◌⊎◌, List, [], ◌∷◌, take, Some, None, Option, sym, refl, ap, ◌∙◌, subst, ⊎_elim, arith}
+use Rattle.std.proofs.Common.{◌≡◌, ℕ, zero, suc, ◌<◌, ◌≤◌, List, [], ◌∷◌, take, Some, None, Option, sym, refl, ap, ◌∙◌, subst, ⊎_elim, arith}
 use Rattle.std.specs.List.{slice_get}
 use Rattle.std.proofs.lemmas.Bool.{cases_lt}
 use Rattle.drawing.specs.declared.Refusal.{Refusal}
@@ -96,15 +96,15 @@ module _ (l : Ledger) (calls : List Request) where
   here k = after l (take k calls)
 
   -- One call further: a refused change or solve, a question, or no call at all, leaves the ledger.
-  still-step : (i : ℕ) (o : Option Request) → slice_get calls i ≡ o
+  still_step : (i : ℕ) (o : Option Request) → slice_get calls i ≡ o
       → ((c : Change) → slice_get calls i ≡ Some (change c) → Refused (slice_get (replies l calls) i))
       → ((st : Statements) (answer : Network → Answer) → slice_get calls i ≡ Some (solve st answer) → Refused (slice_get (replies l calls) i))
       → stepped (here i) o ≡ here i
-  still-step i None e u v = refl
-  still-step i (Some (question q)) e u v = refl
-  still-step i (Some (change c)) e u v =
+  still_step i None e u v = refl
+  still_step i (Some (question q)) e u v = refl
+  still_step i (Some (change c)) e u v =
       let (code, told) = u c e in change_refused (here i) c code (reply_at l calls i (change c) (refused code) e told)
-  still-step i (Some (solve st answer)) e u v =
+  still_step i (Some (solve st answer)) e u v =
       let (code, told) = v st answer e in solve_refused (here i) st answer code (reply_at l calls i (solve st answer) (refused code) e told)
 
   pub still : (k j : ℕ) → k < j → Unchanged calls (replies l calls) k j → Unsolved calls (replies l calls) k j → here j ≡ here (suc k)
@@ -112,27 +112,27 @@ module _ (l : Ledger) (calls : List Request) where
   still k (suc i) h u v =
       ⊎_elim
       (λ (lt : k < i).
-      (after_step l calls i ∙ still-step i (slice_get calls i) refl (λ c. u i c lt (omega arith)) (λ st answer. v i st answer lt (omega arith)))
+      (after_step l calls i ∙ still_step i (slice_get calls i) refl (λ c. u i c lt (omega arith)) (λ st answer. v i st answer lt (omega arith)))
       ∙ still k i lt (λ m c a b. u m c a (omega arith)) (λ m st answer a b. v m st answer a (omega arith)))
       (λ (ge : i ≤ k). let s : i ≡ k = omega arith in ap (λ n. here (suc n)) s)
       (cases_lt k i)
 
   -- and one that is no accepted change leaves the rig
-  rig-step : (i : ℕ) (o : Option Request) → slice_get calls i ≡ o
+  rig_step : (i : ℕ) (o : Option Request) → slice_get calls i ≡ o
       → ((c : Change) → slice_get calls i ≡ Some (change c) → Refused (slice_get (replies l calls) i))
       → (stepped (here i) o).rig ≡ (here i).rig
-  rig-step i None e u = refl
-  rig-step i (Some (question q)) e u = refl
-  rig-step i (Some (change c)) e u =
+  rig_step i None e u = refl
+  rig_step i (Some (question q)) e u = refl
+  rig_step i (Some (change c)) e u =
       let (code, told) = u c e in ap (λ m. m.rig) (change_refused (here i) c code (reply_at l calls i (change c) (refused code) e told))
-  rig-step i (Some (solve st answer)) e u = solve_rig (here i) st answer
+  rig_step i (Some (solve st answer)) e u = solve_rig (here i) st answer
 
   pub same_rig : (k j : ℕ) (st : Statements) (answer : Network → Answer) → slice_get calls k ≡ Some (solve st answer) → k < j → Unchanged calls (replies l calls) k j → rig_at l calls j ≡ rig_at l calls k
   same_rig k zero st answer e h u = absurd (omega arith)
   same_rig k (suc i) st answer e h u =
       ⊎_elim
       (λ (lt : k < i).
-      (ap (λ m. m.rig) (after_step l calls i) ∙ rig-step i (slice_get calls i) refl (λ c. u i c lt (omega arith)))
+      (ap (λ m. m.rig) (after_step l calls i) ∙ rig_step i (slice_get calls i) refl (λ c. u i c lt (omega arith)))
       ∙ same_rig k i st answer e lt (λ m c a b. u m c a (omega arith)))
       (λ (ge : i ≤ k).
       let s : i ≡ k = omega arith in

@@ -1,5 +1,5 @@
 -- A call of a list as the ledger is fed it, and what it was told as the ledger's reply.
-use Rattle.std.specs.Prelude.{ℕ, List, vec_items}
+use Rattle.std.specs.Prelude.{ℕ, vec_items}
 use Rattle.drawing.specs.declared.Kind.{Kind}
 use Rattle.drawing.specs.declared.Kind.TheVariants.{Lead as LeadKind, Link as LinkKind}
 use Rattle.drawing.specs.declared.Run.{Run}

@@ -1,5 +1,5 @@
 -- The ending that a rig holds: its standing, and the record of the last solve.
-use Rattle.std.specs.Prelude.{◌≡◌, Bool, true, false, ◌&&◌, Some, None, vec_items, Option}
+use Rattle.std.specs.Prelude.{Bool, true, false, ◌&&◌, Some, None, vec_items, Option}
 use Rattle.drawing.specs.declared.Verdict.{Verdict}
 use Rattle.drawing.specs.declared.Verdict.TheVariants.{Plan as PlanVerdict, Shortage as ShortageVerdict}
 use Rattle.drawing.specs.declared.record.Record.{Record}

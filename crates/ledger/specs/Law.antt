@@ -3,7 +3,7 @@ use Rattle.std.specs.Prelude.{◌≡◌, ℕ, ◌<◌, ◌≤◌, ◌↔◌, Lis
 use Rattle.std.specs.List.{slice_get}
 use Rattle.drawing.specs.declared.Statements.{Statements}
 use Rattle.drawing.specs.Drawings.{Network}
-use Rattle.drawing.specs.Plans.{Plan, Feasible, total as totalOfPlan}
+use Rattle.drawing.specs.Plans.{Plan, Feasible, total as total_of_plan}
 use Rattle.drawing.specs.Labels.{worth, Cut, Shortage}
 use Rattle.drawing.specs.Answers.{Answer, Planned, Short, Right}
 use Rattle.drawing.specs.Solvers.{Carried}
@@ -36,7 +36,7 @@ Unsolved calls told i j =
 
 -- A feasible plan of the largest total, beside a cut of that worth; or, where the drawing has no feasible plan, a shortage, whose worth is below 0.
 abbrev pub Ends : Network → Answer → Type 0
-Ends d (Planned p t ls) = Feasible d p × (t ≡ totalOfPlan p) × ((q : Plan) → Feasible d q → totalOfPlan q ≤ t) × Cut d ls × (worth d ls ≡ pos t)
+Ends d (Planned p t ls) = Feasible d p × (t ≡ total_of_plan p) × ((q : Plan) → Feasible d q → total_of_plan q ≤ t) × Cut d ls × (worth d ls ≡ pos t)
 Ends d (Short ls) = ((q : Plan) → Feasible d q → ⊥) × Shortage d ls
 
 -- the question at j, if there is one, tells the ending e of the drawing d, and a sheet leaves its text in the output

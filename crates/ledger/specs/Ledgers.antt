@@ -1,5 +1,5 @@
 -- The ledger of a rig: what each call answers, what it leaves in its output, and what the ledger then holds.
-use Rattle.std.specs.Prelude.{ℕ, ◌+◌, ◌-◌, Bool, cond, List, [], ◌∷◌, ℤ, is_some, Some, None, Ok, Err, Option, Result, unsigned_abs}
+use Rattle.std.specs.Prelude.{ℕ, ◌+◌, ◌-◌, cond, List, [], ◌∷◌, ℤ, is_some, Some, None, Ok, Err, Option, Result, unsigned_abs}
 use Rattle.drawing.specs.declared.Run.{Run}
 use Rattle.drawing.specs.declared.Label.{Label}
 use Rattle.drawing.specs.declared.Statements.{Statements}
@@ -9,9 +9,9 @@ use Rattle.drawing.specs.Codes.{mark_of, refusal_code}
 use Rattle.drawing.specs.Drawings.{Network, run_count, run}
 use Rattle.drawing.specs.Plans.{Plan, flow}
 use Rattle.drawing.specs.Labels.{label, worth}
-use Rattle.drawing.specs.Answers.{Answer, Planned, Short, labels_of}
+use Rattle.drawing.specs.Answers.{Answer, Planned, Short}
 use Rattle.drawing.specs.Solvers.{refusal_of}
-use Rattle.rig_drawing.specs.Changes.{check, answered, held_after, is_point, is_run, mark_refusal, marked, limit_refusal, limited, lay_refusal, laid, rerate_refusal, rerated}
+use Rattle.rig_drawing.specs.Changes.{check, held_after, is_point, is_run, marked, limit_refusal, limited, lay_refusal, laid, rerate_refusal, rerated}
 use Rattle.sheet.specs.Columns.{writing_tells, writing_leaves}
 use Rattle.sheet.specs.Sheets.{sheet_text}
 use Rattle.ledger.specs.declared.Standing.{Standing}

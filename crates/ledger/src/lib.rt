@@ -1,4 +1,6 @@
 // The calls of a rig and what they are told, as values; the ledger and the law over lists of calls stand in specs.
+#![tactic(auto)]
+
 use drawing::{Label, Refusal};
 
 // Without an ending a rig is drawn; with a plan it is planned, with a shortage short.

@@ -9,7 +9,7 @@ use Rattle.drawing.specs.Answers.{Short}
 use Rattle.drawing.specs.Counts.{Within, only, nth}
 use Rattle.drawing.specs.Drawings.{Network, point_count, run_count, point, run, is_link, limit_of, units, uses}
 use Rattle.drawing.specs.Labels.{is_tight, label, adds, worth}
-use Rattle.drawing.specs.Plans.{Plan, Feasible, InRange, flow}
+use Rattle.drawing.specs.Plans.{Plan, Feasible, InRange}
 use Rattle.drawing.specs.Records.{Contents, filed}
 use Rattle.drawing.proofs.Sums.{sum_below, only_le}
 use Rattle.duality.proofs.Duality.{none_to}

@@ -7,7 +7,7 @@ use Rattle.drawing.specs.declared.Verdict.{Verdict}
 use Rattle.drawing.specs.declared.Verdict.TheVariants.{Plan as PlanVerdict, Shortage as ShortageVerdict}
 use Rattle.drawing.specs.declared.record.Record.{Record}
 use Rattle.drawing.specs.Answers.{Answer, Planned, Short}
-use Rattle.drawing.specs.Drawings.{Network, point_count, run_count, run, units as unitsOf}
+use Rattle.drawing.specs.Drawings.{Network, point_count, run_count, run, units as units_of}
 use Rattle.drawing.specs.Plans.{Plan, Feasible}
 use Rattle.drawing.specs.Records.{plan_in, answer_in}
 use Rattle.drawing.specs.Solvers.{Modest, Carried}
@@ -22,7 +22,7 @@ use Rattle.lower_bounds.specs.Verdicts.{shows_shortage, shortage_shown}
 
 -- sizes
 module _ (b : Statements) (d : Network) (modest : Modest b) (c : Carried (lowers_states b) d) where
-  pub few_units : unitsOf d ≤ 600000000
+  pub few_units : units_of d ≤ 600000000
   few_units = omega (arith, c.few_units, only_le (lowers_fit b) (b.units / 3), modest.units)
 
   pub few_lowers : all_lowers d ≤ 600000000

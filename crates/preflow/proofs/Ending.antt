@@ -1,28 +1,28 @@
 -- What the turns end in: the answer is right, and near are the points from which no residual path leads to the bar.
-use Rattle.std.proofs.Common.{◌≡◌, ℕ, zero, suc, ◌+◌, ◌-◌, ◌*◌, ◌%◌, ◌<◌, ◌≤◌, Bool, true, false, cond, not, eqb, ltb, ◌≢◌, ◌⊎◌, List, [], ◌∷◌, map, length, get_or, ℤ, sym, refl, ap, ◌∙◌, subst, ap₂, inl, inr, ⊎_elim, arith}
+use Rattle.std.proofs.Common.{◌≡◌, ℕ, zero, suc, ◌+◌, ◌-◌, ◌*◌, ◌<◌, ◌≤◌, Bool, true, false, cond, not, eqb, ltb, ◌⊎◌, List, [], ◌∷◌, map, length, get_or, ℤ, sym, refl, ap, ◌∙◌, subst, ap₂, ⊎_elim, arith}
 use Rattle.std.specs.List.{range_with_len}
-use Rattle.std.proofs.lemmas.Bool.{cases_Bool, lt-ltb, le-ltb, ltb-true, ltb-false, not-true, not_from_true, not_from_false, true≢false}
+use Rattle.std.proofs.lemmas.Bool.{cases_Bool, lt-ltb, le-ltb, ltb-true, not-true, not_from_true, not_from_false, true≢false}
 use Rattle.drawing.specs.declared.Label.{Label}
 use Rattle.drawing.specs.declared.Label.TheVariants.{Near, Far}
 use Rattle.drawing.specs.Counts.{Within}
-use Rattle.drawing.specs.Drawings.{Network, point_count, run_count, point, run, is_bar}
+use Rattle.drawing.specs.Drawings.{Network, point_count, run_count, run}
 use Rattle.drawing.specs.Labels.{is_near, is_far, label}
 use Rattle.drawing.specs.Answers.{Answer, Planned, Right}
 use Rattle.drawing.specs.Solvers.{Carried}
-use Rattle.residual.specs.Net.{mate_of, head_of, tail_of, outs, Bounded, Sent}
-use Rattle.residual.specs.Layers.{Into, Layered}
+use Rattle.residual.specs.Net.{mate_of, head_of, tail_of}
+use Rattle.residual.specs.Layers.{Layered}
 use Rattle.residual.specs.Laying.{heads_of, room_of}
 use Rattle.residual.specs.Plain.{Plain, plain_statements, rack_of, bar_of}
-use Rattle.residual.specs.Readings.{flows_in, labels_by, plan_in, answer_in, Solved}
+use Rattle.residual.specs.Readings.{flows_in, labels_by, plan_in, Solved}
 use Rattle.residual.specs.Paths.{Forward, Backward, Steps, ResidualPath}
-use Rattle.residual.proofs.Moves.{mate_within, mate_mate, mate_odd}
+use Rattle.residual.proofs.Moves.{mate_within, mate_mate}
 use Rattle.residual.proofs.Pairs.{each_arc, mate_double}
 use Rattle.residual.proofs.Arcs.{length_heads, length_room, head_of_lem, tail_of_lem}
 use Rattle.residual.proofs.Rooms.{bounded, outs_few}
 use Rattle.residual.proofs.Terminals.{plain, rack, bar, apart}
 use Rattle.residual.proofs.Rights.{right, nth_made}
 use Rattle.residual.proofs.Reaches.{step_along, steps_near}
-use Rattle.preflow.specs.Turns.{State, flipped, aims, states, turns_for, final}
+use Rattle.preflow.specs.Turns.{State, flipped, aims, turns_for, final}
 use Rattle.preflow.specs.Fifo.{Fifo}
 use Rattle.preflow.specs.Rising.{Rising}
 use Rattle.preflow.specs.Opening.{Opened}
@@ -30,33 +30,33 @@ use Rattle.preflow.specs.Preflow.{Arcs, Ends, Ended}
 use Rattle.preflow.specs.Unpathed.{NearUnlessPaths}
 use Rattle.preflow.specs.Model.{state_of, unreached, read, read_state, relabel_answer}
 use Rattle.preflow.proofs.Heights.{flipped_at}
-use Rattle.preflow.proofs.Progress.{final_ended, final_layered, states_sound}
+use Rattle.preflow.proofs.Progress.{final_ended, final_layered}
 use Rattle.preflow.proofs.Order.{fifo, opened, rising}
 
 module _ (d : Network) (p : Plain d) where
   abbrev hs : List ℕ
   hs = heads_of d.runs
 
-  tail-back : (k : ℕ) → k < run_count d → tail_of hs (2 * k + 1) ≡ (run d (suc k)).head
-  tail-back k h = ap (λ (x : ℕ). tail_of hs x) (sym (mate_double k)) ∙ ap (λ (x : ℕ). get_or hs x 0) (mate_mate (2 * k)) ∙ head_of_lem d.runs k h
+  tail_back : (k : ℕ) → k < run_count d → tail_of hs (2 * k + 1) ≡ (run d (suc k)).head
+  tail_back k h = ap (λ (x : ℕ). tail_of hs x) (sym (mate_double k)) ∙ ap (λ (x : ℕ). get_or hs x 0) (mate_mate (2 * k)) ∙ head_of_lem d.runs k h
 
-  head-back : (k : ℕ) → k < run_count d → head_of hs (2 * k + 1) ≡ (run d (suc k)).tail
-  head-back k h = ap (λ (x : ℕ). get_or hs x 0) (sym (mate_double k)) ∙ tail_of_lem d.runs k h
+  head_back : (k : ℕ) → k < run_count d → head_of hs (2 * k + 1) ≡ (run d (suc k)).tail
+  head_back k h = ap (λ (x : ℕ). get_or hs x 0) (sym (mate_double k)) ∙ tail_of_lem d.runs k h
 
-  by-arc : (P : ℕ → ℕ → Type 0) → ((k : ℕ) → k < run_count d → P (run d (suc k)).tail (run d (suc k)).head) → ((k : ℕ) → k < run_count d → P (run d (suc k)).head (run d (suc k)).tail) → (a : ℕ) → a < length hs → P (tail_of hs a) (head_of hs a)
-  by-arc P f b a h =
+  by_arc : (P : ℕ → ℕ → Type 0) → ((k : ℕ) → k < run_count d → P (run d (suc k)).tail (run d (suc k)).head) → ((k : ℕ) → k < run_count d → P (run d (suc k)).head (run d (suc k)).tail) → (a : ℕ) → a < length hs → P (tail_of hs a) (head_of hs a)
+  by_arc P f b a h =
       let long = length_heads d.runs in
       each_arc (λ a. P (tail_of hs a) (head_of hs a)) (run_count d)
       (λ k q. subst (λ (u : ℕ). P u (head_of hs (2 * k))) (sym (tail_of_lem d.runs k q)) (subst (P (run d (suc k)).tail) (sym (head_of_lem d.runs k q)) (f k q)))
-      (λ k q. subst (λ (u : ℕ). P u (head_of hs (2 * k + 1))) (sym (tail-back k q)) (subst (P (run d (suc k)).head) (sym (head-back k q)) (b k q)))
+      (λ k q. subst (λ (u : ℕ). P u (head_of hs (2 * k + 1))) (sym (tail_back k q)) (subst (P (run d (suc k)).head) (sym (head_back k q)) (b k q)))
       a (omega arith)
 
   pub arcs : Arcs hs (point_count d)
   arcs = record {
     even = let l = length_heads d.runs in omega arith;
-    some = by-arc (λ u v. 0 < v) (λ k h. let q = (p.lawful.each_run (suc k) (omega arith)).head_in in omega arith) (λ k h. let q = (p.lawful.each_run (suc k) (omega arith)).tail_in in omega arith);
-    most = by-arc (λ u v. v ≤ point_count d) (λ k h. let q = (p.lawful.each_run (suc k) (omega arith)).head_in in omega arith) (λ k h. let q = (p.lawful.each_run (suc k) (omega arith)).tail_in in omega arith);
-    loopless = by-arc (λ u v. v ≡ u → ⊥) (λ k h e. (p.lawful.each_run (suc k) (omega arith)).apart (sym e)) (λ k h e. (p.lawful.each_run (suc k) (omega arith)).apart e);
+    some = by_arc (λ u v. 0 < v) (λ k h. let q = (p.lawful.each_run (suc k) (omega arith)).head_in in omega arith) (λ k h. let q = (p.lawful.each_run (suc k) (omega arith)).tail_in in omega arith);
+    most = by_arc (λ u v. v ≤ point_count d) (λ k h. let q = (p.lawful.each_run (suc k) (omega arith)).head_in in omega arith) (λ k h. let q = (p.lawful.each_run (suc k) (omega arith)).tail_in in omega arith);
+    loopless = by_arc (λ u v. v ≡ u → ⊥) (λ k h e. (p.lawful.each_run (suc k) (omega arith)).apart (sym e)) (λ k h e. (p.lawful.each_run (suc k) (omega arith)).apart e);
   }
 
   pub ends : Ends (point_count d) (rack_of d) (bar_of d)
@@ -107,9 +107,9 @@ module _ (d : Network) (p : Plain d) where
   flows = flows_in (run_count d) last.left
 
   -- a step in front of a path
-  step-first : (j u w v : ℕ) → Forward d flows u w ⊎ Backward d flows u w → Steps d flows j w v → Steps d flows (suc j) u v
-  step-first zero u w v s e = (u, refl, subst (λ (y : ℕ). Forward d flows u y ⊎ Backward d flows u y) e s)
-  step-first (suc j) u w v s st = (st.0, step-first j u w st.0 s st.1, st.2)
+  step_first : (j u w v : ℕ) → Forward d flows u w ⊎ Backward d flows u w → Steps d flows j w v → Steps d flows (suc j) u v
+  step_first zero u w v s e = (u, refl, subst (λ (y : ℕ). Forward d flows u y ⊎ Backward d flows u y) e s)
+  step_first (suc j) u w v s st = (st.0, step_first j u w st.0 s st.1, st.2)
 
   -- a point of level j + 1 is j steps from the bar
   level_steps : (j u : ℕ) → get_or levels u 0 ≡ suc j → Steps d flows j u (bar_of d)
@@ -124,47 +124,47 @@ module _ (d : Network) (p : Plain d) where
       let s = step_along d (rack_of d) (bar_of d) last.left total ended.sent (mate_of a) m open-mate in
       let t : tail_of hs (mate_of a) ≡ u = ap (λ (x : ℕ). get_or hs x 0) (mate_mate a) ∙ i.to in
       let s' : Forward d flows u (tail_of hs a) ⊎ Backward d flows u (tail_of hs a) = subst (λ (y : ℕ). Forward d flows y (tail_of hs a) ⊎ Backward d flows y (tail_of hs a)) t s in
-      step-first j u (tail_of hs a) (bar_of d) s' (level_steps j (tail_of hs a) (omega (arith, from, e)))
+      step_first j u (tail_of hs a) (bar_of d) s' (level_steps j (tail_of hs a) (omega (arith, from, e)))
 
   near_label : (b : Bool) → is_near (cond b Near Far) ≡ b
   near_label true = refl
   near_label false = refl
 
-  far-label : (b : Bool) → is_far (cond b Near Far) ≡ not b
-  far-label true = refl
-  far-label false = refl
+  far_label : (b : Bool) → is_far (cond b Near Far) ≡ not b
+  far_label true = refl
+  far_label false = refl
 
   label_is : (v : ℕ) → Within (point_count d) v → label (labels_by (point_count d) (unreached levels)) v ≡ cond (unreached levels v) Near Far
   label_is v w = nth_made (λ u. cond (unreached levels u) Near Far) (point_count d) v _ w
 
-  path-from : (v : ℕ) → unreached levels v ≡ false → ResidualPath d flows v (bar_of d)
-  path-from v n =
+  path_from : (v : ℕ) → unreached levels v ≡ false → ResidualPath d flows v (bar_of d)
+  path_from v n =
       let h = ltb-true 0 (get_or levels v 0) (twice (ltb 0 (get_or levels v 0)) n) in
       record { count = get_or levels v 0 - 1; steps = level_steps (get_or levels v 0 - 1) v (omega arith) }
     where
       twice : (b : Bool) → not b ≡ false → b ≡ true
       twice b h = grind arith
 
-  no-path : (v : ℕ) → unreached levels v ≡ true → ResidualPath d flows v (bar_of d) → ⊥
-  no-path v n h =
+  no_path : (v : ℕ) → unreached levels v ≡ true → ResidualPath d flows v (bar_of d) → ⊥
+  no_path v n h =
       true≢false (sym (steps_near d (rack_of d) (bar_of d) last.left total ended.sent (unreached levels) solved.shut h.count v (bar_of d) n h.steps) ∙ solved.far_sink)
 
-  near-unless : (v : ℕ) (l : Label) → l ≡ cond (unreached levels v) Near Far
+  near_unless : (v : ℕ) (l : Label) → l ≡ cond (unreached levels v) Near Far
       → (is_near l ≡ true → ResidualPath d flows v (bar_of d) → ⊥) × ((ResidualPath d flows v (bar_of d) → ⊥) → is_near l ≡ true) × (is_far l ≡ true → ResidualPath d flows v (bar_of d)) × (ResidualPath d flows v (bar_of d) → is_far l ≡ true)
-  near-unless v l e =
+  near_unless v l e =
       let n : is_near l ≡ unreached levels v = ap is_near e ∙ near_label (unreached levels v) in
-      let f : is_far l ≡ not (unreached levels v) = ap is_far e ∙ far-label (unreached levels v) in (
-        λ h. no-path v (sym n ∙ h),
-        λ h. n ∙ ⊎_elim (λ (t : unreached levels v ≡ true). t) (λ (t : unreached levels v ≡ false). absurd (h (path-from v t))) (cases_Bool (unreached levels v)),
-        λ h. path-from v (not-true (unreached levels v) (sym f ∙ h)),
-        λ h. f ∙ ⊎_elim (λ (t : unreached levels v ≡ true). absurd (no-path v t h)) (λ (t : unreached levels v ≡ false). not_from_false (unreached levels v) t) (cases_Bool (unreached levels v)),
+      let f : is_far l ≡ not (unreached levels v) = ap is_far e ∙ far_label (unreached levels v) in (
+        λ h. no_path v (sym n ∙ h),
+        λ h. n ∙ ⊎_elim (λ (t : unreached levels v ≡ true). t) (λ (t : unreached levels v ≡ false). absurd (h (path_from v t))) (cases_Bool (unreached levels v)),
+        λ h. path_from v (not-true (unreached levels v) (sym f ∙ h)),
+        λ h. f ∙ ⊎_elim (λ (t : unreached levels v ≡ true). absurd (no_path v t h)) (λ (t : unreached levels v ≡ false). not_from_false (unreached levels v) t) (cases_Bool (unreached levels v)),
       )
 
   unpathed : NearUnlessPaths d (read_state d last)
   unpathed b v bin isb vin =
       let e : b ≡ bar_of d = (bar d p).alone b bin isb in
       subst (λ (y : ℕ). (is_near (label (labels_by (point_count d) (unreached levels)) v) ≡ true → ResidualPath d flows v y → ⊥) × ((ResidualPath d flows v y → ⊥) → is_near (label (labels_by (point_count d) (unreached levels)) v) ≡ true) × (is_far (label (labels_by (point_count d) (unreached levels)) v) ≡ true → ResidualPath d flows v y) × (ResidualPath d flows v y → is_far (label (labels_by (point_count d) (unreached levels)) v) ≡ true)) (sym e)
-      (near-unless v (label (labels_by (point_count d) (unreached levels)) v) (label_is v vin))
+      (near_unless v (label (labels_by (point_count d) (unreached levels)) v) (label_is v vin))
 
 pub relabel_right : (d : Network) → Carried plain_statements d → Right d (relabel_answer d)
 unfolding relabel_answer

@@ -1,5 +1,5 @@
 -- An active point is lower than 2n.
-use Rattle.std.proofs.Common.{◌≡◌, ℕ, zero, suc, ◌+◌, ◌-◌, ◌*◌, ◌/◌, ◌%◌, ◌<◌, ◌≤◌, Bool, true, false, cond, ltb, ◌≢◌, ◌⊎◌, List, [], ◌∷◌, length, get_or, sym, refl, ap, ◌∙◌, subst, inl, inr, ⊎_elim, arith}
+use Rattle.std.proofs.Common.{◌≡◌, ℕ, zero, suc, ◌+◌, ◌-◌, ◌*◌, ◌/◌, ◌%◌, ◌<◌, ◌≤◌, Bool, true, false, cond, ltb, ◌≢◌, ◌⊎◌, List, length, get_or, sym, refl, ap, subst, inl, inr, ⊎_elim, arith}
 use Rattle.std.proofs.lemmas.Bool.{lt-ltb, le-ltb, ltb-true, ltb-false, cases_eq, cases_lt, cond-true, cond-false, cond_both}
 use Rattle.drawing.specs.Counts.{Within}
 use Rattle.residual.specs.Net.{mate_of, head_of, tail_of, outs}
@@ -136,14 +136,14 @@ module _ (hs rs₀ rs es ds : List ℕ) (n source given : ℕ) (ar : Arcs hs n)
       omega (arith, c, x, y, q, s, e, act)
 
   -- so of the n - 1 points other than the source fewer and fewer are higher
-  few-above : (v : ℕ) → Within n v → 0 < get_or es v 0 → (j : ℕ) → n + j < get_or ds v 0 → above ds (n + j) n + j < n
-  few-above v vin act zero h =
+  few_above : (v : ℕ) → Within n v → 0 < get_or es v 0 → (j : ℕ) → n + j < get_or ds v 0 → above ds (n + j) n + j < n
+  few_above v vin act zero h =
       let z : n + 0 ≡ n = omega arith in
       let a = above_misses ds n source (omega arith) n sin in
       let b = ap (λ (x : ℕ). above ds x n) z in
       omega (arith, a, b)
-  few-above v vin act (suc j) h =
-      let ih = few-above v vin act j (omega arith) in
+  few_above v vin act (suc j) h =
+      let ih = few_above v vin act j (omega arith) in
       let one : n + suc j ≡ suc (n + j) = omega arith in
       let b = ap (λ (x : ℕ). above ds x n) one in
       ⊎_elim
@@ -156,7 +156,7 @@ module _ (hs rs₀ rs es ds : List ℕ) (n source given : ℕ) (ar : Arcs hs n)
       ⊎_elim (λ h. h)
       (λ h.
       let low : n + (n - 1) < get_or ds v 0 = omega arith in
-      let a = few-above v vin act (n - 1) low in
+      let a = few_above v vin act (n - 1) low in
       let b = above_has ds (n + (n - 1)) v low n vin in
       absurd (let z : ⊥ = omega (arith, a, b) in z))
       (cases_lt (get_or ds v 0) (n + n))

@@ -1,13 +1,11 @@
 -- The levels of a search backward from the sink, and the heights.
-use Rattle.std.proofs.Common.{◌≡◌, ℕ, zero, suc, ◌+◌, ◌-◌, ◌*◌, ◌%◌, ◌<◌, ◌≤◌, min, max, Bool, true, false, cond, eqb, ltb, ◌≢◌, ◌⊎◌, List, [], ◌∷◌, map, length, get_or, set, sym, refl, ap, ◌∙◌, subst, inl, inr, ⊎_elim, arith, length-set}
-use Rattle.std.specs.List.{range_with_len}
+use Rattle.std.proofs.Common.{◌≡◌, ℕ, zero, suc, ◌+◌, ◌-◌, ◌<◌, ◌≤◌, max, ◌⊎◌, List, length, get_or, ap, inl, inr, ⊎_elim, arith}
 use Rattle.std.proofs.lemmas.List.{get_or_past}
 use Rattle.std.proofs.lemmas.List.FromFn.{get_or-map-range_with_len, length-map-range_with_len}
-use Rattle.std.proofs.lemmas.Bool.{eqb-true, eqb-false, cases_eq, cases_lt, cond-true, cond-false, cond_both, eq-eqb, ne_eqb}
+use Rattle.std.proofs.lemmas.Bool.{cases_eq, cases_lt, cond-true, cond-false, eq-eqb, ne_eqb}
 use Rattle.drawing.specs.Counts.{Within}
-use Rattle.residual.specs.Net.{mate_of, head_of, tail_of, outs}
-use Rattle.residual.specs.Search.{levels}
-use Rattle.residual.specs.Layers.{Into, Layered}
+use Rattle.residual.specs.Net.{mate_of, head_of, tail_of}
+use Rattle.residual.specs.Layers.{Layered}
 use Rattle.residual.proofs.Moves.{mate_mate, mate_within}
 use Rattle.residual.proofs.Layers.{levels_layered, levels_size}
 use Rattle.preflow.specs.Turns.{flipped, aims, dist, raised}
@@ -115,8 +113,8 @@ module _ (hs rs : List ℕ) (n source sink : ℕ) (ar : Arcs hs n) (en : Ends n 
         | inr ne ↦ let i = la.reached u (omega (arith, h, ne)) in let t = i.to in let s = ar.some i.arc i.within in (omega (arith, t, s), le)
       ]
 
-  flip-steep : (a : ℕ) → a < length hs → 0 < get_or (flipped rs) a 0 → get_or ds (head_of hs a) 0 ≤ get_or ds (tail_of hs a) 0 + 1
-  flip-steep a h w =
+  flip_steep : (a : ℕ) → a < length hs → 0 < get_or (flipped rs) a 0 → get_or ds (head_of hs a) 0 ≤ get_or ds (tail_of hs a) 0 + 1
+  flip_steep a h w =
       let f = flipped_at rs a (omega (arith, lr, h)) in
       let s = valid.steep (mate_of a) (mate_within a (length hs) ar.even h) (omega (arith, f, w)) in
       let q = ap (λ (x : ℕ). get_or ds (get_or hs x 0) 0) (mate_mate a) in
@@ -129,7 +127,7 @@ module _ (hs rs : List ℕ) (n source sink : ℕ) (ar : Arcs hs n) (en : Ends n 
   pub unreached : get_or lv source 0 ≡ 0
   unreached =
       ⊎_elim
-      (λ pos. let b = below_level hs (flipped rs) n source sink lv la inside ds ground flip-steep (get_or lv source 0) source pos (omega arith) in let m = most source in absurd (let z : ⊥ = omega (arith, b, m, high) in z))
+      (λ pos. let b = below_level hs (flipped rs) n source sink lv la inside ds ground flip_steep (get_or lv source 0) source pos (omega arith) in let m = most source in absurd (let z : ⊥ = omega (arith, b, m, high) in z))
       (λ z. omega arith)
       (cases_lt 0 (get_or lv source 0))
 
@@ -147,8 +145,8 @@ module _ (hs rs : List ℕ) (n source sink : ℕ) (ar : Arcs hs n) (en : Ends n 
       let s1 = s.1 in
       (s0, omega (arith, s1, t))
 
-  dist-steep : (a : ℕ) → a < length hs → 0 < get_or rs a 0 → dist n (get_or lv (tail_of hs a) 0) ≤ dist n (get_or lv (head_of hs a) 0) + 1
-  dist-steep a h w =
+  dist_steep : (a : ℕ) → a < length hs → 0 < get_or rs a 0 → dist n (get_or lv (tail_of hs a) 0) ≤ dist n (get_or lv (head_of hs a) 0) + 1
+  dist_steep a h w =
       ⊎_elim
       (λ p.
       let c = closed a h w p in
@@ -173,7 +171,7 @@ module _ (hs rs : List ℕ) (n source sink : ℕ) (ar : Arcs hs n) (en : Ends n 
         let x = raised_at n lv ds (tail_of hs a) (let q = tails a h in omega (arith, q)) in
         let y = raised_at n lv ds (head_of hs a) (ar.most a h) in
         let s = valid.steep a h w in
-        let d = dist-steep a h w in
+        let d = dist_steep a h w in
         omega (arith, x, y, s, d);
   }
 

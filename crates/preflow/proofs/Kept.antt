@@ -1,12 +1,12 @@
 -- What the pushes from a point keep and change.
-use Rattle.std.proofs.Common.{◌≡◌, ℕ, zero, suc, ◌+◌, ◌-◌, ◌*◌, ◌%◌, ◌<◌, ◌≤◌, min, Bool, true, false, cond, ◌&&◌, eqb, ltb, ◌≢◌, ◌⊎◌, List, [], ◌∷◌, length, get_or, set, sym, refl, ap, ◌∙◌, subst, inl, inr, ⊎_elim, arith, length-set}
-use Rattle.std.proofs.lemmas.Bool.{eqb-true, eqb-false, ltb-true, lt-ltb, cases_Bool, cases_eq, cases_lt, cond-true, cond-false, cond_both, eq-eqb, ne_eqb, and_parts, and_from, true≢false}
+use Rattle.std.proofs.Common.{◌≡◌, ℕ, zero, suc, ◌+◌, ◌-◌, ◌%◌, ◌<◌, ◌≤◌, min, Bool, true, false, cond, eqb, ltb, ◌≢◌, ◌⊎◌, List, length, get_or, set, sym, refl, ap, ◌∙◌, subst, inl, inr, ⊎_elim, arith, length-set}
+use Rattle.std.proofs.lemmas.Bool.{eqb-true, eqb-false, ltb-true, lt-ltb, cases_eq, cases_lt, cond_both, eq-eqb, and_parts, and_from, true≢false}
 use Rattle.drawing.specs.Counts.{Within}
 use Rattle.residual.specs.Net.{mate_of, head_of, tail_of, outs, moved}
 use Rattle.preflow.specs.Push.{Out, shifted, apt, joined, scans}
 use Rattle.preflow.specs.Preflow.{whole, exc, Arcs}
-use Rattle.residual.proofs.Moves.{mate_mate, mate_ne, mate_within, moved_length, moved_other, moved_here, moved_mate, moved_pairs, outs_set}
-use Rattle.preflow.proofs.Sums.{shifted_length, shifted_other, shifted_from, shifted_to, shifted_sum, term, mu, term_push}
+use Rattle.residual.proofs.Moves.{mate_mate, mate_within, moved_length, moved_other, moved_here, moved_mate, moved_pairs, outs_set}
+use Rattle.preflow.proofs.Sums.{shifted_length, shifted_other, shifted_from, shifted_sum, term, mu, term_push}
 
 pub cond_add : (b : Bool) (x y : ℕ) → cond b (x + y) 0 ≡ cond b x 0 + cond b y 0
 cond_add true x y = refl

@@ -1,16 +1,16 @@
 -- The queue: what it holds, how long it is, and how it changes.
-use Rattle.std.proofs.Common.{◌≡◌, ℕ, zero, suc, ◌+◌, ◌-◌, ◌<◌, ◌≤◌, min, Bool, true, false, cond, not, ◌&&◌, eqb, ltb, ◌≢◌, ◌⊎◌, List, [], ◌∷◌, ◌++◌, length, get_or, set, count_by, sym, refl, ap, ◌∙◌, subst, ap₂, inl, inr, ⊎_elim, arith}
+use Rattle.std.proofs.Common.{◌≡◌, ℕ, zero, suc, ◌+◌, ◌<◌, ◌≤◌, min, Bool, true, false, cond, not, ◌&&◌, eqb, ltb, ◌≢◌, List, [], ◌∷◌, ◌++◌, length, get_or, count_by, sym, refl, ap, ◌∙◌, subst, ap₂, inl, inr, ⊎_elim, arith}
 use Rattle.std.proofs.lemmas.List.{get_or_past}
 use Rattle.std.proofs.lemmas.List.Sums.{sum_by-cons, sum_by_push}
-use Rattle.std.proofs.lemmas.Bool.{cases_Bool, cases_eq, cases_lt, cond-true, cond-false, cond_both, eq-eqb, ne_eqb, eqb-true, eqb-false, lt-ltb, le-ltb, ltb-true, and_parts, not-true}
+use Rattle.std.proofs.lemmas.Bool.{cases_eq, cases_lt, cond-true, cond-false, cond_both, eq-eqb, ne_eqb, eqb-false, lt-ltb, le-ltb, ltb-true, and_parts, not-true}
 use Rattle.std.proofs.lemmas.Bool.Decides.{nat_tests}
 use Rattle.drawing.specs.Counts.{Within, only}
-use Rattle.residual.specs.Net.{head_of, tail_of, moved}
-use Rattle.preflow.specs.Push.{Out, shifted, active, joined, apt, scans, serves}
+use Rattle.residual.specs.Net.{head_of, moved}
+use Rattle.preflow.specs.Push.{Out, shifted, active, joined, apt, scans}
 use Rattle.preflow.specs.Fifo.{times}
 use Rattle.preflow.specs.Preflow.{Arcs, Lined}
-use Rattle.preflow.proofs.Sums.{shifted_other, shifted_from, shifted_to}
-use Rattle.preflow.proofs.Kept.{Kept, apt_parts, apt_one}
+use Rattle.preflow.proofs.Sums.{shifted_other, shifted_to}
+use Rattle.preflow.proofs.Kept.{apt_parts, apt_one}
 
 -- how many in the queue are below k
 below : ℕ → List ℕ → ℕ
@@ -40,17 +40,17 @@ below_none (x ∷ qs) =
     omega (arith, a, ih, c)
 
 module _ (qs : List ℕ) (once : (u : ℕ) → times u qs ≤ 1) where
-  below-most : (k : ℕ) → below k qs ≤ k
-  below-most zero = let a = below_none qs in omega (arith, a)
-  below-most (suc k) = let a = below_more k qs in let ih = below-most k in let o = once k in omega (arith, a, ih, o)
+  below_most : (k : ℕ) → below k qs ≤ k
+  below_most zero = let a = below_none qs in omega (arith, a)
+  below_most (suc k) = let a = below_more k qs in let ih = below_most k in let o = once k in omega (arith, a, ih, o)
 
-  below-misses : (w : ℕ) → times w qs ≡ 0 → (k : ℕ) → w < k → below k qs < k
-  below-misses w e zero h = absurd (let z : ⊥ = omega arith in z)
-  below-misses w e (suc k) h =
+  below_misses : (w : ℕ) → times w qs ≡ 0 → (k : ℕ) → w < k → below k qs < k
+  below_misses w e zero h = absurd (let z : ⊥ = omega arith in z)
+  below_misses w e (suc k) h =
       let a = below_more k qs in
       elim (cases_eq w k) [
-        | inl q ↦ let m = below-most k in let t = ap (λ (y : ℕ). times y qs) q in omega (arith, a, m, t, e)
-        | inr q ↦ let ih = below-misses w e k (omega arith) in let o = once k in omega (arith, a, ih, o)
+        | inl q ↦ let m = below_most k in let t = ap (λ (y : ℕ). times y qs) q in omega (arith, a, m, t, e)
+        | inr q ↦ let ih = below_misses w e k (omega arith) in let o = once k in omega (arith, a, ih, o)
       ]
 
 below_all : (k : ℕ) (qs : List ℕ) → ((u : ℕ) → k ≤ u → times u qs ≡ 0) → below k qs ≡ length qs
@@ -72,7 +72,7 @@ below_all k (x ∷ qs) h =
 
 -- a queue that misses one of the places below k is shorter than k
 pub short : (qs : List ℕ) (k w : ℕ) → ((u : ℕ) → times u qs ≤ 1) → ((u : ℕ) → k ≤ u → times u qs ≡ 0) → times w qs ≡ 0 → w < k → length qs < k
-short qs k w once past e h = let a = below_all k qs past in let b = below-misses qs once w e k h in omega (arith, a, b)
+short qs k w once past e h = let a = below_all k qs past in let b = below_misses qs once w e k h in omega (arith, a, b)
 
 only_most : (b : Bool) → only b 1 ≤ 1
 only_most true = omega arith
@@ -143,18 +143,18 @@ module _ (source sink v w x : ℕ) (es qs : List ℕ) (ne : v ≢ w) (vin : v < 
   abbrev inner : Bool
   inner = not (eqb w source) && not (eqb w sink)
 
-  line-here : (e f : ℕ) (i : Bool) → f ≡ e + x → only ((ltb 0 e && i) && true) 1 + only ((eqb e 0 && i) && true) 1 ≡ only ((ltb 0 f && i) && true) 1
-  line-here e f true q = elim (cases_eq e 0) [
+  line_here : (e f : ℕ) (i : Bool) → f ≡ e + x → only ((ltb 0 e && i) && true) 1 + only ((eqb e 0 && i) && true) 1 ≡ only ((ltb 0 f && i) && true) 1
+  line_here e f true q = elim (cases_eq e 0) [
     | inl z ↦ rw (eq-eqb e 0 z, le-ltb 0 e (omega arith), lt-ltb 0 f (omega arith)) refl
     | inr z ↦ rw (ne_eqb e 0 z, lt-ltb 0 e (omega arith), lt-ltb 0 f (omega arith)) refl
   ]
-  line-here e f false q = both (ltb 0 e) (eqb e 0) (ltb 0 f)
+  line_here e f false q = both (ltb 0 e) (eqb e 0) (ltb 0 f)
     where
       both : (a b c : Bool) → only ((a && false) && true) 1 + only ((b && false) && true) 1 ≡ only ((c && false) && true) 1
       both a b c = grind arith
 
-  drop-last : (a b : Bool) (m : ℕ) → b ≡ false → m + only (a && b) 1 ≡ m
-  drop-last a b m h = grind arith
+  drop_last : (a b : Bool) (m : ℕ) → b ≡ false → m + only (a && b) 1 ≡ m
+  drop_last a b m h = grind arith
 
   pub line_push : Lined source sink v es qs → Lined source sink v (shifted es v w x) (joined source sink (get_or es w 0) w qs)
   unfolding active
@@ -165,7 +165,7 @@ module _ (source sink v w x : ℕ) (es qs : List ℕ) (ne : v ≢ w) (vin : v < 
         elim (cases_eq u w) [
           | inl e ↦
               let to = shifted_to es v w x ne win in
-              let h = line-here (get_or es w 0) (get_or fs w 0) inner to in
+              let h = line_here (get_or es w 0) (get_or fs w 0) inner to in
               let nv : not (eqb w v) ≡ true = ap not (ne_eqb w v (λ q. ne (sym q))) in
               let same : eqb w w ≡ true = eq-eqb w w refl in
               let goal : times w (joined source sink (get_or es w 0) w qs) ≡ only (active source sink fs w && not (eqb w v)) 1 =
@@ -175,7 +175,7 @@ module _ (source sink v w x : ℕ) (es qs : List ℕ) (ne : v ≢ w) (vin : v < 
               subst (λ (y : ℕ). times y (joined source sink (get_or es w 0) w qs) ≡ only (active source sink fs y && not (eqb y v)) 1) (sym e) goal
           | inr n ↦
               let off : eqb w u ≡ false = ne_eqb w u (λ q. n (sym q)) in
-              t ∙ drop-last (eqb (get_or es w 0) 0 && inner) (eqb w u) (times u qs) off ∙ l.line u ∙ rest u n
+              t ∙ drop_last (eqb (get_or es w 0) 0 && inner) (eqb w u) (times u qs) off ∙ l.line u ∙ rest u n
         ];
   }
     where
@@ -223,23 +223,23 @@ held_again source sink v es qs ns nt l u =
       | inl e ↦
           let b : Bool = ltb 0 (get_or es v 0) in
           let goal : times v (cond b (qs ++ v ∷ []) qs) ≡ only (active source sink es v) 1 =
-          with-v b (times-push v v) ∙ ap (λ (c : Bool). only (b && c) 1) (sym (both (eqb v source) (eqb v sink) (ne_eqb v source ns) (ne_eqb v sink nt))) in
+          with_v b (times_push v v) ∙ ap (λ (c : Bool). only (b && c) 1) (sym (both (eqb v source) (eqb v sink) (ne_eqb v source ns) (ne_eqb v sink nt))) in
           subst (λ (y : ℕ). times y (cond b (qs ++ v ∷ []) qs) ≡ only (active source sink es y) 1) (sym e) goal
       | inr n ↦ without (ltb 0 (get_or es v 0)) n ∙ l.line u ∙ free (active source sink es u) (eqb u v) (ne_eqb u v n)
     ]
   where
-    times-push : (u w : ℕ) → times u (qs ++ w ∷ []) ≡ times u qs + cond (eqb w u) 1 0
-    times-push u w = sum_by_push (λ y. cond (eqb y u) 1 0) qs w
+    times_push : (u w : ℕ) → times u (qs ++ w ∷ []) ≡ times u qs + cond (eqb w u) 1 0
+    times_push u w = sum_by_push (λ y. cond (eqb y u) 1 0) qs w
 
-    with-v : (b : Bool) → times v (qs ++ v ∷ []) ≡ times v qs + cond (eqb v v) 1 0 → times v (cond b (qs ++ v ∷ []) qs) ≡ only (b && true) 1
-    with-v true p = let z = line_served source sink v es qs l in let c = cond-true {A = ℕ} (eqb v v) 1 0 (eq-eqb v v refl) in omega (arith, p, z, c)
-    with-v false p = line_served source sink v es qs l
+    with_v : (b : Bool) → times v (qs ++ v ∷ []) ≡ times v qs + cond (eqb v v) 1 0 → times v (cond b (qs ++ v ∷ []) qs) ≡ only (b && true) 1
+    with_v true p = let z = line_served source sink v es qs l in let c = cond-true {A = ℕ} (eqb v v) 1 0 (eq-eqb v v refl) in omega (arith, p, z, c)
+    with_v false p = line_served source sink v es qs l
 
     both : (a b : Bool) → a ≡ false → b ≡ false → (not a && not b) ≡ true
     both a b p q = grind arith
 
     without : (b : Bool) → u ≢ v → times u (cond b (qs ++ v ∷ []) qs) ≡ times u qs
-    without true n = let p = times-push u v in let c = cond-false {A = ℕ} (eqb v u) 1 0 (ne_eqb v u (λ q. n (sym q))) in omega (arith, p, c)
+    without true n = let p = times_push u v in let c = cond-false {A = ℕ} (eqb v u) 1 0 (ne_eqb v u (λ q. n (sym q))) in omega (arith, p, c)
     without false n = refl
 
     free : (a b : Bool) → b ≡ false → only (a && not b) 1 ≡ only a 1

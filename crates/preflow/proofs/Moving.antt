@@ -1,8 +1,7 @@
 -- One push of the code, and what it keeps.
-use Rattle.std.proofs.Common.{◌≡◌, ℕ, zero, suc, ◌+◌, ◌-◌, ◌%◌, ◌<◌, ◌≤◌, min, ◌≢◌, List, [], ◌∷◌, length, get_or, set, sym, refl, ap, ◌∙◌, subst, inl, inr, ⊎_elim, arith, length-set, get_or-set_other, get_or-set_same}
+use Rattle.std.proofs.Common.{◌≡◌, ℕ, ◌+◌, ◌-◌, ◌<◌, ◌≤◌, min, ◌≢◌, List, length, get_or, set, sym, ap, ◌∙◌, arith, get_or-set_other}
 use Rattle.drawing.specs.Counts.{Within}
-use Rattle.residual.specs.Net.{mate_of, head_of, tail_of, moved, Chained, Place, Bounded}
-use Rattle.residual.proofs.Moves.{mate_within, mate_ne}
+use Rattle.residual.specs.Net.{mate_of, head_of, moved, Chained, Place, Bounded}
 use Rattle.preflow.specs.Push.{shifted, joined}
 use Rattle.preflow.specs.Preflow.{whole, Arcs, Lined}
 use Rattle.preflow.proofs.Sums.{pair_le}

@@ -1,17 +1,17 @@
 -- First in, first out: what a turn does to the queue.
-use Rattle.std.proofs.Common.{◌≡◌, ℕ, zero, suc, ◌+◌, ◌-◌, ◌<◌, ◌≤◌, min, Bool, true, false, cond, not, ◌&&◌, eqb, ltb, ◌≢◌, ◌⊎◌, List, [], ◌∷◌, ◌++◌, length, get_or, set, sym, refl, ap, ◌∙◌, subst, ap₂, inl, inr, ⊎_elim, append_assoc, append-nil, arith, length-set, get_or-set_same}
-use Rattle.std.proofs.lemmas.Bool.{cases_Bool, cases_eq, cond-true, cond-false, cond_both, eq-eqb, ne_eqb, eqb-true, eqb-false, lt-ltb, le-ltb}
+use Rattle.std.proofs.Common.{◌≡◌, ℕ, zero, suc, ◌+◌, ◌<◌, ◌≤◌, min, Bool, true, false, cond, not, ◌&&◌, eqb, ltb, ◌≢◌, List, [], ◌∷◌, ◌++◌, length, get_or, set, sym, refl, ap, ◌∙◌, subst, append_assoc, append-nil, arith, length-set, get_or-set_same}
+use Rattle.std.proofs.lemmas.Bool.{cond_both, ne_eqb, eqb-false}
 use Rattle.std.proofs.lemmas.Bool.Decides.{nat_tests}
-use Rattle.drawing.specs.Counts.{Within, only}
-use Rattle.residual.specs.Net.{head_of, tail_of, moved, outs}
+use Rattle.drawing.specs.Counts.{Within}
+use Rattle.residual.specs.Net.{head_of, moved, outs}
 use Rattle.preflow.specs.Push.{Out, shifted, active, joined, apt, scans, lows, serves}
 use Rattle.preflow.specs.Turns.{State, refreshed, turned, opening, after, states, turns_for, first_heights, first_excess}
-use Rattle.preflow.specs.Fifo.{times, Held, pushed, wakened, Served, Fifo}
+use Rattle.preflow.specs.Fifo.{pushed, wakened, Served, Fifo}
 use Rattle.preflow.specs.Rising.{Rising}
 use Rattle.preflow.specs.Opening.{Opened}
-use Rattle.preflow.specs.Preflow.{Arcs, Ends, Lined}
+use Rattle.preflow.specs.Preflow.{Arcs, Ends}
 use Rattle.preflow.proofs.Sums.{shifted_to}
-use Rattle.preflow.proofs.Kept.{Kept, apt_parts, apt_one}
+use Rattle.preflow.proofs.Kept.{apt_parts, apt_one}
 use Rattle.preflow.proofs.Gap.{active_low}
 use Rattle.preflow.proofs.Lines.{active_parts}
 use Rattle.preflow.proofs.Progress.{Sound, states_sound, front_within, states_front, states_idle, turned_sound, final_idle, first_length, first_source, first_other, opening_height}
@@ -51,10 +51,10 @@ more_pushes source sink v w x es qs es' qs' ne win some p = record {
 }
 
 module _ (hs ds : List ℕ) (n v low source sink : ℕ) (ar : Arcs hs n) (vin : Within n v) (nv : get_or ds v 0 ≢ low) where
-  scans-pushes : (k : ℕ) (rs es qs : List ℕ) → length rs ≡ length hs → length es ≡ n + 1 → k ≤ length hs → 0 < get_or es v 0 → Pushes source sink v es qs (scans hs ds source sink v low k rs es qs).1 (scans hs ds source sink v low k rs es qs).2
+  scans_pushes : (k : ℕ) (rs es qs : List ℕ) → length rs ≡ length hs → length es ≡ n + 1 → k ≤ length hs → 0 < get_or es v 0 → Pushes source sink v es qs (scans hs ds source sink v low k rs es qs).1 (scans hs ds source sink v low k rs es qs).2
   unfolding scans
-  scans-pushes zero rs es qs lr le kin act = no_pushes source sink v es qs
-  scans-pushes (suc k) rs es qs lr le kin act =
+  scans_pushes zero rs es qs lr le kin act = no_pushes source sink v es qs
+  scans_pushes (suc k) rs es qs lr le kin act =
       let x : ℕ = min (get_or es v 0) (get_or rs k 0) in
       let w : ℕ = head_of hs k in
       let rs' : List ℕ = moved rs k x in
@@ -74,8 +74,8 @@ module _ (hs ds : List ℕ) (n v low source sink : ℕ) (ar : Arcs hs n) (vin : 
       let some : 0 < x = omega (arith, wide, act) in
       cond_both (eqb (get_or es' v 0) 0) (rs', es', j) (scans hs ds source sink v low k rs' es' j) P
       (λ z. more_pushes source sink v w x es qs es' j ne win some (no_pushes source sink v es' j))
-      (λ z. let nz = eqb-false (get_or es' v 0) 0 z in more_pushes source sink v w x es qs _ _ ne win some (scans-pushes k rs' es' j (one.same ∙ lr) (one.points ∙ le) (omega arith) (omega (arith, nz)))))
-      (λ t. scans-pushes k rs es qs lr le (omega arith) act)
+      (λ z. let nz = eqb-false (get_or es' v 0) 0 z in more_pushes source sink v w x es qs _ _ ne win some (scans_pushes k rs' es' j (one.same ∙ lr) (one.points ∙ le) (omega arith) (omega (arith, nz)))))
+      (λ t. scans_pushes k rs es qs lr le (omega arith) act)
 
 -- v is an inner point, so it is active where it has excess
 again_is : (source sink v : ℕ) (es qs : List ℕ) → v ≢ source → v ≢ sink → cond (ltb 0 (get_or es v 0)) (qs ++ v ∷ []) qs ≡ qs ++ cond (active source sink es v) (v ∷ []) []
@@ -94,9 +94,9 @@ module _ (hs rs₀ : List ℕ) (n source sink : ℕ) (ar : Arcs hs n) (en : Ends
   abbrev at : ℕ → State
   at k = states hs n source sink rs₀ k
 
-  turned-served : (s : State) → Sound hs rs₀ n source sink ar en len₀ small s → (k v : ℕ) (rest : List ℕ) → s.queue ≡ v ∷ rest → Served source sink v rest s (turned hs n source sink k v s.left s.excess s.height rest)
+  turned_served : (s : State) → Sound hs rs₀ n source sink ar en len₀ small s → (k v : ℕ) (rest : List ℕ) → s.queue ≡ v ∷ rest → Served source sink v rest s (turned hs n source sink k v s.left s.excess s.height rest)
   unfolding turned serves
-  turned-served s f k v rest e =
+  turned_served s f k v rest e =
       let w = front_within hs rs₀ n source sink ar en len₀ small s f v rest e in
       let ap3 = active_parts source sink s.excess v w.1 in
       let t = turned_sound hs rs₀ n source sink ar en len₀ small s f k v rest e in
@@ -104,10 +104,10 @@ module _ (hs rs₀ : List ℕ) (n source sink : ℕ) (ar : Arcs hs n) (en : Ends
       let low : ℕ = lows hs s.left up v (length hs) 1000 in
       let ds : List ℕ = set up v (low + 1) in
       let lds = t.sound.pre.heights in
-      let lup : length up ≡ n + 1 = up-length up v (low + 1) (n + 1) lds in
+      let lup : length up ≡ n + 1 = up_length up v (low + 1) (n + 1) lds in
       let here : get_or ds v 0 ≡ low + 1 = get_or-set_same up v (low + 1) 0 (let m = w.0.1 in omega (arith, lup, m)) in
       let nv : get_or ds v 0 ≢ low = λ q. omega (arith, q, here) in
-      let p = scans-pushes hs ds n v low source sink ar w.0 nv (length hs) s.left s.excess rest (f.pre.same ∙ len₀) f.pre.points (omega arith) ap3.0 in
+      let p = scans_pushes hs ds n v low source sink ar w.0 nv (length hs) s.left s.excess rest (f.pre.same ∙ len₀) f.pre.points (omega arith) ap3.0 in
       let o : Out = scans hs ds source sink v low (length hs) s.left s.excess rest in
       record {
         pushes = p.pushes;
@@ -115,13 +115,13 @@ module _ (hs rs₀ : List ℕ) (n source sink : ℕ) (ar : Arcs hs n) (en : Ends
         queue = again_is source sink v o.1 o.2 ap3.1 ap3.2 ∙ ap (λ (ys : List ℕ). ys ++ cond (active source sink o.1 v) (v ∷ []) []) p.queue;
       }
     where
-      up-length : (xs : List ℕ) (i x m : ℕ) → length (set xs i x) ≡ m → length xs ≡ m
-      up-length xs i x m h = sym (length-set xs i x) ∙ h
+      up_length : (xs : List ℕ) (i x m : ℕ) → length (set xs i x) ≡ m → length xs ≡ m
+      up_length xs i x m h = sym (length-set xs i x) ∙ h
 
   pub fifo : Fifo source sink at
   fifo = record {
     held = λ k. (states_sound hs rs₀ n source sink ar en len₀ small room k).held;
-    front = λ k v rest e. subst (Served source sink v rest (at k)) (sym (states_front hs rs₀ n source sink ar en len₀ small room k v rest e)) (turned-served (at k) (states_sound hs rs₀ n source sink ar en len₀ small room k) k v rest e);
+    front = λ k v rest e. subst (Served source sink v rest (at k)) (sym (states_front hs rs₀ n source sink ar en len₀ small room k v rest e)) (turned_served (at k) (states_sound hs rs₀ n source sink ar en len₀ small room k) k v rest e);
   }
 
   pub opened : Opened n source sink (at 0)
@@ -133,7 +133,7 @@ module _ (hs rs₀ : List ℕ) (n source sink : ℕ) (ar : Arcs hs n) (en : Ends
       let most = first_source n source sink en 1800000001 in
       let nv : get_or (first_heights n source) source 0 ≢ 0 = λ q. omega (arith, q, high, s, m) in
       let act : 0 < get_or (first_excess n source) source 0 = omega (arith, most) in
-      let p = scans-pushes hs (first_heights n source) n source 0 source sink ar (s, m) nv (length hs) rs₀ (first_excess n source) [] len₀ (first_length n source sink en 1800000001) (omega arith) act in
+      let p = scans_pushes hs (first_heights n source) n source 0 source sink ar (s, m) nv (length hs) rs₀ (first_excess n source) [] len₀ (first_length n source sink en 1800000001) (omega arith) act in
       record { pushes = p.pushes; excess = p.excess; queue = p.queue }
 
   -- no turn lowers a point

@@ -1,17 +1,17 @@
 -- The turns: what each keeps, that they end, and in a largest flow.
-use Rattle.std.proofs.Common.{◌≡◌, ℕ, zero, suc, ◌+◌, ◌-◌, ◌*◌, ◌/◌, ◌%◌, ◌<◌, ◌≤◌, min, max, Bool, true, false, cond, not, ◌&&◌, eqb, ltb, ◌≢◌, ◌⊎◌, List, [], ◌∷◌, ◌++◌, length, get_or, set, replicate, sym, refl, ap, ◌∙◌, subst, inl, inr, ⊎_elim, arith, length-set, get_or-set_other, get_or-set_same}
+use Rattle.std.proofs.Common.{◌≡◌, ℕ, zero, suc, ◌+◌, ◌-◌, ◌*◌, ◌%◌, ◌<◌, ◌≤◌, min, Bool, true, false, cond, not, ◌&&◌, eqb, ltb, ◌≢◌, ◌⊎◌, List, [], ◌∷◌, length, get_or, set, replicate, sym, refl, ap, ◌∙◌, subst, inl, inr, ⊎_elim, arith, length-set, get_or-set_other, get_or-set_same}
 use Rattle.std.proofs.lemmas.List.{get_or_past, get_or-replicate, length-replicate}
-use Rattle.std.proofs.lemmas.Bool.{eqb-true, eqb-false, ltb-true, ltb-false, lt-ltb, le-ltb, cases_Bool, cases_eq, cases_lt, cond-true, cond-false, cond_both, eq-eqb, ne_eqb, and_from, and_parts}
-use Rattle.drawing.specs.Counts.{Within, sum_to, only}
+use Rattle.std.proofs.lemmas.Bool.{eqb-true, ltb-true, lt-ltb, cases_Bool, cases_eq, cases_lt, cond-true, cond-false, cond_both, eq-eqb, ne_eqb, and_from, and_parts}
+use Rattle.drawing.specs.Counts.{Within, only}
 use Rattle.drawing.proofs.Sums.{sum_below}
-use Rattle.residual.specs.Net.{mate_of, head_of, tail_of, outs, Bounded}
+use Rattle.residual.specs.Net.{head_of, tail_of, outs, Bounded}
 use Rattle.residual.specs.Layers.{Layered}
-use Rattle.preflow.specs.Push.{Out, active, apt, scans, lows, serves}
+use Rattle.preflow.specs.Push.{Out, active, scans, lows, serves}
 use Rattle.preflow.specs.Turns.{State, flipped, aims, raised, refreshed, turned, turn, first_heights, first_excess, opening, after, states, turns_for, final}
 use Rattle.preflow.specs.Fifo.{times, Held}
-use Rattle.preflow.specs.Preflow.{whole, exc, Arcs, Ends, Lined, Steep, Preflow, Ended}
+use Rattle.preflow.specs.Preflow.{whole, exc, Arcs, Ends, Lined, Preflow, Ended}
 use Rattle.preflow.proofs.Sums.{sum_lone, sum_two, term_le, sum_most, term, mu, term_lift, term_most}
-use Rattle.preflow.proofs.Kept.{Kept, cond_add, scans_kept, scans_some, scans_closed, apt_from}
+use Rattle.preflow.proofs.Kept.{cond_add, scans_kept, scans_some, scans_closed, apt_from}
 use Rattle.preflow.proofs.Gap.{active_low}
 use Rattle.preflow.proofs.Heights.{la, unreached, aimed, closed, raised_valid, raised_high, raised_ground, raised_low, raised_up, raised_length}
 use Rattle.preflow.proofs.Lines.{active_parts, active_none, idle_none, scans_lined, held_again, front_active, front_lined, source_idle}
@@ -103,13 +103,13 @@ module _ (n source sink : ℕ) (en : Ends n source sink) where
   first_whole = sum_lone (λ u. get_or (first_excess n source) u 0) source n (en.source_some, en.source_most) (λ u q. first_other 1800000001 u q) ∙ first_source 1800000001
 
   pub first_lined : Lined source sink source (first_excess n source) []
-  first_lined = record { line = λ w. sym (elim (cases_eq w source) [ inl e ↦ by-source (active source sink (first_excess n source) w) (eqb w source) (eq-eqb w source e) | inr e ↦ by-none (active source sink (first_excess n source) w) (not (eqb w source)) (active_none source sink (first_excess n source) w (first_other 1800000001 w e)) ]) }
+  first_lined = record { line = λ w. sym (elim (cases_eq w source) [ inl e ↦ by_source (active source sink (first_excess n source) w) (eqb w source) (eq-eqb w source e) | inr e ↦ by_none (active source sink (first_excess n source) w) (not (eqb w source)) (active_none source sink (first_excess n source) w (first_other 1800000001 w e)) ]) }
     where
-      by-source : (a b : Bool) → b ≡ true → only (a && not b) 1 ≡ 0
-      by-source a b h = grind arith
+      by_source : (a b : Bool) → b ≡ true → only (a && not b) 1 ≡ 0
+      by_source a b h = grind arith
 
-      by-none : (a b : Bool) → a ≡ false → only (a && b) 1 ≡ 0
-      by-none a b h = grind arith
+      by_none : (a b : Bool) → a ≡ false → only (a && b) 1 ≡ 0
+      by_none a b h = grind arith
 
 cond_nought : (b : Bool) (x : ℕ) → x ≡ 0 → cond b x 0 ≡ 0
 cond_nought true x e = e
@@ -217,7 +217,7 @@ module _ (hs rs₀ : List ℕ) (n source sink : ℕ) (ar : Arcs hs n) (en : Ends
       ] in
       let high : get_or ds' source 0 ≡ n = other source (λ q. nsrc (sym q)) ∙ f.high in
       let top = active_low hs rs₀ rs es ds' n source 1800000001 ar f.pairs f.flow valid sin high v vin act in
-      let lowUp : (u : ℕ) → get_or ds' u 0 ≤ n + n = λ u. ⊎_elim (λ q. let z = ap (λ (y : ℕ). get_or ds' y 0) q in omega (arith, z, top)) (λ q. let z = other u q in let y = f.low u in omega (arith, z, y)) (cases_eq u v) in
+      let low_up : (u : ℕ) → get_or ds' u 0 ≤ n + n = λ u. ⊎_elim (λ q. let z = ap (λ (y : ℕ). get_or ds' y 0) q in omega (arith, z, top)) (λ q. let z = other u q in let y = f.low u in omega (arith, z, y)) (cases_eq u v) in
       let ups : (u : ℕ) → get_or ds u 0 ≤ get_or ds' u 0 = λ u. ⊎_elim (λ q. let z = ap (λ (y : ℕ). get_or ds' y 0) q in let y = ap (λ (y : ℕ). get_or ds y 0) q in omega (arith, z, y, here, rise)) (λ q. let z = other u q in omega (arith, z)) (cases_eq u v) in (
         record {
           same = f.same;
@@ -230,13 +230,13 @@ module _ (hs rs₀ : List ℕ) (n source sink : ℕ) (ar : Arcs hs n) (en : Ends
           valid = record { steep = valid };
           high = high;
           ground = other sink (λ q. nsnk (sym q)) ∙ f.ground;
-          low = lowUp;
+          low = low_up;
         },
         sum_below n (λ u. term n (get_or es u 0) (get_or ds' u 0)) (λ u. term n (get_or es u 0) (get_or ds u 0))
             (λ u h.
             let e = term_le (λ y. get_or es y 0) u n h in
             term_lift n (get_or es u 0) (get_or ds u 0) (get_or ds' u 0) (omega (arith, e, all))
-            (ups u) (lowUp u)),
+            (ups u) (low_up u)),
         ⊎_elim (λ e. absurd (let z : ⊥ = omega (arith, e, here, top, small) in z)) (λ x. x) from,
         ups,
       )
@@ -389,31 +389,31 @@ module _ (hs rs₀ : List ℕ) (n source sink : ℕ) (ar : Arcs hs n) (en : Ends
     abbrev at : ℕ → State
     at k = states hs n source sink rs₀ k
 
-    turn-sound : (s : State) → Sound s → (k : ℕ) (qs : List ℕ) → s.queue ≡ qs → Sound (turn hs n source sink k s qs)
+    turn_sound : (s : State) → Sound s → (k : ℕ) (qs : List ℕ) → s.queue ≡ qs → Sound (turn hs n source sink k s qs)
     unfolding turn
-    turn-sound s f k [] e = f
-    turn-sound s f k (v ∷ rest) e = (turned_sound s f k v rest e).sound
+    turn_sound s f k [] e = f
+    turn_sound s f k (v ∷ rest) e = (turned_sound s f k v rest e).sound
 
     pub states_sound : (k : ℕ) → Sound (at k)
     unfolding after
     states_sound zero = opening_sound room
-    states_sound (suc k) = turn-sound (at k) (states_sound k) k (at k).queue refl
+    states_sound (suc k) = turn_sound (at k) (states_sound k) k (at k).queue refl
 
-    turn-front : (s : State) (k v : ℕ) (rest qs : List ℕ) → qs ≡ v ∷ rest → turn hs n source sink k s qs ≡ turned hs n source sink k v s.left s.excess s.height rest
+    turn_front : (s : State) (k v : ℕ) (rest qs : List ℕ) → qs ≡ v ∷ rest → turn hs n source sink k s qs ≡ turned hs n source sink k v s.left s.excess s.height rest
     unfolding turn
-    turn-front s k v rest qs e = subst (λ (y : List ℕ). turn hs n source sink k s y ≡ turned hs n source sink k v s.left s.excess s.height rest) (sym e) refl
+    turn_front s k v rest qs e = subst (λ (y : List ℕ). turn hs n source sink k s y ≡ turned hs n source sink k v s.left s.excess s.height rest) (sym e) refl
 
-    turn-idle : (s : State) (k : ℕ) (qs : List ℕ) → qs ≡ [] → turn hs n source sink k s qs ≡ s
+    turn_idle : (s : State) (k : ℕ) (qs : List ℕ) → qs ≡ [] → turn hs n source sink k s qs ≡ s
     unfolding turn
-    turn-idle s k qs e = subst (λ (y : List ℕ). turn hs n source sink k s y ≡ s) (sym e) refl
+    turn_idle s k qs e = subst (λ (y : List ℕ). turn hs n source sink k s y ≡ s) (sym e) refl
 
     pub states_front : (k v : ℕ) (rest : List ℕ) → (at k).queue ≡ v ∷ rest → at (suc k) ≡ turned hs n source sink k v (at k).left (at k).excess (at k).height rest
     unfolding after
-    states_front k v rest e = turn-front (at k) k v rest (at k).queue e
+    states_front k v rest e = turn_front (at k) k v rest (at k).queue e
 
     pub states_idle : (k : ℕ) → (at k).queue ≡ [] → at (suc k) ≡ at k
     unfolding after
-    states_idle k e = turn-idle (at k) k (at k).queue e
+    states_idle k e = turn_idle (at k) k (at k).queue e
 
     -- nothing more is done once no point is active
     pub states_rest : (k j : ℕ) → (at k).queue ≡ [] → at (j + k) ≡ at k
@@ -435,15 +435,15 @@ module _ (hs rs₀ : List ℕ) (n source sink : ℕ) (ar : Arcs hs n) (en : Ends
         let m : mu n (at (suc k)).excess (at (suc k)).height < mu n (at k).excess (at k).height = subst (λ (s : State). mu n s.excess s.height < mu n (at k).excess (at k).height) (sym q) f in
         inr (omega (arith, m, le))
 
-    run-all : (k : ℕ) → Run k
+    run_all : (k : ℕ) → Run k
     unfolding Run
-    run-all zero = inr (omega arith)
-    run-all (suc k) =
-        ⊎_elim (λ e. inl (ap (λ (s : State). s.queue) (states_idle k e) ∙ e)) (λ le. run_more k (at k).queue refl le) (run-all k)
+    run_all zero = inr (omega arith)
+    run_all (suc k) =
+        ⊎_elim (λ e. inl (ap (λ (s : State). s.queue) (states_idle k e) ∙ e)) (λ le. run_more k (at k).queue refl le) (run_all k)
 
-    mu-most : (s : State) → Sound s → mu n s.excess s.height < turns_for n
+    mu_most : (s : State) → Sound s → mu n s.excess s.height < turns_for n
     unfolding turns_for
-    mu-most s f =
+    mu_most s f =
         let all = f.pre.all in
         let a = sum_most (λ u. term n (get_or s.excess u 0) (get_or s.height u 0)) (1800000001 * (n + n)) n
         (λ u h. let e = term_le (λ y. get_or s.excess y 0) u n h in term_most n (get_or s.excess u 0) (get_or s.height u 0) (omega (arith, e, all)) (f.pre.low u)) in
@@ -453,8 +453,8 @@ module _ (hs rs₀ : List ℕ) (n source sink : ℕ) (ar : Arcs hs n) (en : Ends
     pub final_idle : (final hs n source sink rs₀).queue ≡ []
     unfolding Run
     final_idle =
-        let m = mu-most (at 0) (states_sound 0) in
-        ⊎_elim (λ e. e) (λ le. absurd (let z : ⊥ = omega (arith, m, le) in z)) (run-all (turns_for n))
+        let m = mu_most (at 0) (states_sound 0) in
+        ⊎_elim (λ e. e) (λ le. absurd (let z : ⊥ = omega (arith, m, le) in z)) (run_all (turns_for n))
 
     pub idle_all : (k : ℕ) → (at k).queue ≡ [] → (u : ℕ) → active source sink (at k).excess u ≡ false
     idle_all k e u = off (active source sink (at k).excess u) (sym ((states_sound k).held u) ∙ ap (times u) e)

@@ -1,15 +1,15 @@
 -- The steps of the loops, as the code takes them.
-use Rattle.std.proofs.Common.{◌≡◌, ℕ, zero, suc, ◌+◌, ◌-◌, ◌%◌, ◌<◌, ◌≤◌, min, max, Bool, true, false, cond, not, ◌&&◌, eqb, ltb, ◌≢◌, List, [], ◌∷◌, ◌++◌, length, get_or, set, sym, refl, ap, ◌∙◌, subst, inl, inr, ⊎_elim, arith, length-set, get_or-set_other, get_or-set_same}
-use Rattle.std.proofs.lemmas.Bool.{eqb-true, eqb-false, cases_Bool, cases_eq, cond-true, cond-false, eq-eqb, ne_eqb, lt-ltb, le-ltb, and_from, and_left, and_right, not_from_false}
-use Rattle.residual.specs.Net.{mate_of, head_of, tail_of, before, moved, Chained, Place}
+use Rattle.std.proofs.Common.{◌≡◌, ℕ, zero, suc, ◌+◌, ◌-◌, ◌%◌, ◌<◌, ◌≤◌, min, true, false, cond, ◌&&◌, eqb, ltb, List, [], ◌∷◌, ◌++◌, length, get_or, set, sym, refl, ap, ◌∙◌, inl, inr, arith}
+use Rattle.std.proofs.lemmas.Bool.{cases_Bool, cond-true, cond-false, eq-eqb, ne_eqb, lt-ltb, le-ltb, and_from, and_left, and_right}
+use Rattle.residual.specs.Net.{head_of, tail_of, before, moved, Chained, Place}
 use Rattle.preflow.specs.Push.{Out, shifted, apt, joined, scans, lows, serves}
 use Rattle.preflow.specs.Turns.{State, aims, raised, refreshed, turned}
 use Rattle.residual.proofs.Chains.{follow}
 
 -- lows
 module _ (hs rs ds : List ℕ) (v : ℕ) where
-  abbrev nextLow : (k low : ℕ) → ℕ
-  nextLow k low = cond (eqb (tail_of hs k) v && ltb 0 (get_or rs k 0)) (min low (get_or ds (head_of hs k) 0)) low
+  abbrev next_low : (k low : ℕ) → ℕ
+  next_low k low = cond (eqb (tail_of hs k) v && ltb 0 (get_or rs k 0)) (min low (get_or ds (head_of hs k) 0)) low
 
   pub lows_skip : (k low : ℕ) → lows hs rs ds v k low ≡ lows hs rs ds v (before hs v k) low
   unfolding before lows
@@ -22,10 +22,10 @@ module _ (hs rs ds : List ℕ) (v : ℕ) where
             (ap (lows hs rs ds v k) (cond-false (eqb (tail_of hs k) v && ltb 0 (get_or rs k 0)) (min low (get_or ds (head_of hs k) 0)) low (and_left _ _ e)) ∙ lows_skip k low)
       ]
 
-  lows-one : (at low : ℕ) → 0 < at → lows hs rs ds v at low ≡ lows hs rs ds v (at - 1) (nextLow (at - 1) low)
+  lows_one : (at low : ℕ) → 0 < at → lows hs rs ds v at low ≡ lows hs rs ds v (at - 1) (next_low (at - 1) low)
   unfolding lows
-  lows-one zero low = λ h. absurd (let z : ⊥ = omega arith in z)
-  lows-one (suc k) low = let one : suc k - 1 ≡ k = omega arith in rw one (λ h. refl)
+  lows_one zero low = λ h. absurd (let z : ⊥ = omega arith in z)
+  lows_one (suc k) low = let one : suc k - 1 ≡ k = omega arith in rw one (λ h. refl)
 
   module _ (ns : List ℕ) (n at low : ℕ) (c : Chained hs ns n) (p : Place hs v at) (h : 0 < at) where
     on : (x : ℕ) → lows hs rs ds v (at - 1) x ≡ lows hs rs ds v (get_or ns (at - 1) 0) x
@@ -33,11 +33,11 @@ module _ (hs rs ds : List ℕ) (v : ℕ) where
 
     pub lows_open : 0 < get_or rs (at - 1) 0 → lows hs rs ds v at low ≡ lows hs rs ds v (get_or ns (at - 1) 0) (min low (get_or ds (head_of hs (at - 1)) 0))
     lows_open w =
-        lows-one at low h ∙ ap (lows hs rs ds v (at - 1)) (cond-true _ (min low (get_or ds (head_of hs (at - 1)) 0)) low (and_from _ _ (eq-eqb (tail_of hs (at - 1)) v (p.leaves h)) (lt-ltb 0 (get_or rs (at - 1) 0) w))) ∙ on _
+        lows_one at low h ∙ ap (lows hs rs ds v (at - 1)) (cond-true _ (min low (get_or ds (head_of hs (at - 1)) 0)) low (and_from _ _ (eq-eqb (tail_of hs (at - 1)) v (p.leaves h)) (lt-ltb 0 (get_or rs (at - 1) 0) w))) ∙ on _
 
     pub lows_shut : get_or rs (at - 1) 0 ≤ 0 → lows hs rs ds v at low ≡ lows hs rs ds v (get_or ns (at - 1) 0) low
     lows_shut w =
-        lows-one at low h ∙ ap (lows hs rs ds v (at - 1)) (cond-false _ (min low (get_or ds (head_of hs (at - 1)) 0)) low (and_right (eqb (tail_of hs (at - 1)) v) _ (le-ltb 0 (get_or rs (at - 1) 0) w))) ∙ on _
+        lows_one at low h ∙ ap (lows hs rs ds v (at - 1)) (cond-false _ (min low (get_or ds (head_of hs (at - 1)) 0)) low (and_right (eqb (tail_of hs (at - 1)) v) _ (le-ltb 0 (get_or rs (at - 1) 0) w))) ∙ on _
 
 pub lows_end : (hs rs ds : List ℕ) (v at low : ℕ) → at ≡ 0 → lows hs rs ds v at low ≡ low
 unfolding lows
@@ -57,10 +57,10 @@ module _ (hs ds : List ℕ) (source sink v low : ℕ) where
             (cond-false (eqb (tail_of hs k) v && (ltb 0 (get_or rs k 0) && eqb (get_or ds (head_of hs k) 0) low)) _ _ (and_left _ _ e) ∙ scans_skip k rs es qs)
       ]
 
-  scans-none : (at : ℕ) (rs es qs : List ℕ) → 0 < at → apt hs ds v low (at - 1) rs ≡ false → scans hs ds source sink v low at rs es qs ≡ scans hs ds source sink v low (at - 1) rs es qs
+  scans_none : (at : ℕ) (rs es qs : List ℕ) → 0 < at → apt hs ds v low (at - 1) rs ≡ false → scans hs ds source sink v low at rs es qs ≡ scans hs ds source sink v low (at - 1) rs es qs
   unfolding scans
-  scans-none zero rs es qs = λ h e. absurd (let z : ⊥ = omega arith in z)
-  scans-none (suc k) rs es qs = let one : suc k - 1 ≡ k = omega arith in rw one (λ h e. cond-false _ _ _ e)
+  scans_none zero rs es qs = λ h e. absurd (let z : ⊥ = omega arith in z)
+  scans_none (suc k) rs es qs = let one : suc k - 1 ≡ k = omega arith in rw one (λ h e. cond-false _ _ _ e)
 
   after_push : (k x : ℕ) (rs es : List ℕ) (j : List ℕ) → Out
   after_push k x rs es j =
@@ -68,22 +68,22 @@ module _ (hs ds : List ℕ) (source sink v low : ℕ) where
       (moved rs k x, shifted es v (head_of hs k) x, j)
       (scans hs ds source sink v low k (moved rs k x) (shifted es v (head_of hs k) x) j)
 
-  scans-apt : (at : ℕ) (rs es qs : List ℕ) → 0 < at → apt hs ds v low (at - 1) rs ≡ true → scans hs ds source sink v low at rs es qs ≡ after_push (at - 1) (min (get_or es v 0) (get_or rs (at - 1) 0)) rs es (joined source sink (get_or es (head_of hs (at - 1)) 0) (head_of hs (at - 1)) qs)
+  scans_apt : (at : ℕ) (rs es qs : List ℕ) → 0 < at → apt hs ds v low (at - 1) rs ≡ true → scans hs ds source sink v low at rs es qs ≡ after_push (at - 1) (min (get_or es v 0) (get_or rs (at - 1) 0)) rs es (joined source sink (get_or es (head_of hs (at - 1)) 0) (head_of hs (at - 1)) qs)
   unfolding scans after_push
-  scans-apt zero rs es qs = λ h e. absurd (let z : ⊥ = omega arith in z)
-  scans-apt (suc k) rs es qs = let one : suc k - 1 ≡ k = omega arith in rw one (λ h e. cond-true _ _ _ e)
+  scans_apt zero rs es qs = λ h e. absurd (let z : ⊥ = omega arith in z)
+  scans_apt (suc k) rs es qs = let one : suc k - 1 ≡ k = omega arith in rw one (λ h e. cond-true _ _ _ e)
 
   module _ (ns : List ℕ) (n at : ℕ) (rs es qs : List ℕ) (c : Chained hs ns n) (p : Place hs v at) (h : 0 < at) where
-    on-next : (r e q : List ℕ) → scans hs ds source sink v low (at - 1) r e q ≡ scans hs ds source sink v low (get_or ns (at - 1) 0) r e q
-    on-next r e q = scans_skip (at - 1) r e q ∙ ap (λ (x : ℕ). scans hs ds source sink v low x r e q) (sym (follow v at c p h))
+    on_next : (r e q : List ℕ) → scans hs ds source sink v low (at - 1) r e q ≡ scans hs ds source sink v low (get_or ns (at - 1) 0) r e q
+    on_next r e q = scans_skip (at - 1) r e q ∙ ap (λ (x : ℕ). scans hs ds source sink v low x r e q) (sym (follow v at c p h))
 
     pub scans_shut : get_or rs (at - 1) 0 ≤ 0 → scans hs ds source sink v low at rs es qs ≡ scans hs ds source sink v low (get_or ns (at - 1) 0) rs es qs
     unfolding apt
-    scans_shut z = scans-none at rs es qs h (and_right (eqb (tail_of hs (at - 1)) v) _ (and_left (ltb 0 (get_or rs (at - 1) 0)) _ (le-ltb 0 (get_or rs (at - 1) 0) z))) ∙ on-next rs es qs
+    scans_shut z = scans_none at rs es qs h (and_right (eqb (tail_of hs (at - 1)) v) _ (and_left (ltb 0 (get_or rs (at - 1) 0)) _ (le-ltb 0 (get_or rs (at - 1) 0) z))) ∙ on_next rs es qs
 
     pub scans_off : (get_or ds (head_of hs (at - 1)) 0 ≡ low → ⊥) → scans hs ds source sink v low at rs es qs ≡ scans hs ds source sink v low (get_or ns (at - 1) 0) rs es qs
     unfolding apt
-    scans_off z = scans-none at rs es qs h (and_right (eqb (tail_of hs (at - 1)) v) _ (and_right (ltb 0 (get_or rs (at - 1) 0)) _ (ne_eqb (get_or ds (head_of hs (at - 1)) 0) low z))) ∙ on-next rs es qs
+    scans_off z = scans_none at rs es qs h (and_right (eqb (tail_of hs (at - 1)) v) _ (and_right (ltb 0 (get_or rs (at - 1) 0)) _ (ne_eqb (get_or ds (head_of hs (at - 1)) 0) low z))) ∙ on_next rs es qs
 
     pub at_apt : 0 < get_or rs (at - 1) 0 → get_or ds (head_of hs (at - 1)) 0 ≡ low → apt hs ds v low (at - 1) rs ≡ true
     unfolding apt
@@ -93,7 +93,7 @@ module _ (hs ds : List ℕ) (source sink v low : ℕ) where
         (is : x ≡ min (get_or es v 0) (get_or rs (at - 1) 0)) (j : joined source sink (get_or es (head_of hs (at - 1)) 0) (head_of hs (at - 1)) qs ≡ qs') where
       goes : scans hs ds source sink v low at rs es qs ≡ after_push (at - 1) x rs es qs'
       goes =
-          scans-apt at rs es qs h (at_apt wide up)
+          scans_apt at rs es qs h (at_apt wide up)
           ∙ ap (λ (y : ℕ). after_push (at - 1) y rs es (joined source sink (get_or es (head_of hs (at - 1)) 0) (head_of hs (at - 1)) qs)) (sym is)
           ∙ ap (after_push (at - 1) x rs es) j
 
@@ -103,7 +103,7 @@ module _ (hs ds : List ℕ) (source sink v low : ℕ) where
 
       pub scans_more : (get_or (shifted es v (head_of hs (at - 1)) x) v 0 ≡ 0 → ⊥) → scans hs ds source sink v low at rs es qs ≡ scans hs ds source sink v low (get_or ns (at - 1) 0) (moved rs (at - 1) x) (shifted es v (head_of hs (at - 1)) x) qs'
       unfolding after_push
-      scans_more z = goes ∙ cond-false _ _ _ (ne_eqb _ _ z) ∙ on-next _ _ _
+      scans_more z = goes ∙ cond-false _ _ _ (ne_eqb _ _ z) ∙ on_next _ _ _
 
 pub scans_end : (hs ds : List ℕ) (source sink v low at : ℕ) (rs es qs : List ℕ) → at ≡ 0 → scans hs ds source sink v low at rs es qs ≡ (rs, es, qs)
 unfolding scans

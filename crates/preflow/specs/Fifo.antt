@@ -1,5 +1,5 @@
 -- First in, first out.
-use Rattle.std.specs.Prelude.{◌≡◌, ℕ, zero, suc, ◌+◌, ◌<◌, ◌≤◌, Bool, true, false, cond, not, ◌&&◌, List, [], ◌∷◌, ◌++◌, length, count_by, nat_eq}
+use Rattle.std.specs.Prelude.{◌≡◌, ℕ, suc, cond, not, ◌&&◌, List, [], ◌∷◌, ◌++◌, count_by, nat_eq}
 use Rattle.drawing.specs.Counts.{only}
 use Rattle.preflow.specs.Push.{shifted, active}
 use Rattle.preflow.specs.Turns.{State}

@@ -1,10 +1,9 @@
 -- What push-relabel keeps, and what it ends in.
-use Rattle.std.specs.Prelude.{◌≡◌, ℕ, zero, suc, ◌+◌, ◌-◌, ◌*◌, ◌%◌, ◌<◌, ◌≤◌, Bool, true, false, cond, not, ◌&&◌, List, [], ◌∷◌, length, ◌==◌, ◌≢◌, slice_index, slice_index_or}
+use Rattle.std.specs.Prelude.{◌≡◌, ℕ, ◌+◌, ◌%◌, ◌<◌, ◌≤◌, Bool, cond, not, ◌&&◌, List, length, ◌==◌, ◌≢◌, slice_index, slice_index_or}
 use Rattle.drawing.specs.Counts.{sum_to, only}
-use Rattle.residual.specs.Net.{mate_of, head_of, tail_of, outs, Bounded, Sent}
+use Rattle.residual.specs.Net.{mate_of, head_of, tail_of, outs, Sent}
 use Rattle.preflow.specs.Push.{active}
-use Rattle.preflow.specs.Turns.{State}
-use Rattle.preflow.specs.Fifo.{times, Held}
+use Rattle.preflow.specs.Fifo.{times}
 
 -- all excess of the points 1 .. n
 abbrev pub whole : (es : List ℕ) (n : ℕ) → ℕ

@@ -1,5 +1,5 @@
 -- One point's turn as a function: a lift, and pushes.
-use Rattle.std.specs.Prelude.{ℕ, zero, suc, ◌+◌, ◌-◌, min, Bool, true, false, cond, not, ◌&&◌, List, [], ◌∷◌, ◌++◌, length, set, ◌==◌, nat_lt, slice_index, slice_set}
+use Rattle.std.specs.Prelude.{ℕ, zero, suc, ◌+◌, ◌-◌, min, Bool, cond, not, ◌&&◌, List, [], ◌∷◌, ◌++◌, length, set, ◌==◌, nat_lt, slice_index, slice_set}
 use Rattle.residual.specs.Net.{head_of, tail_of, moved}
 
 -- an excess of x goes from v to w

@@ -1,5 +1,5 @@
 -- The turns of push-relabel as a function.
-use Rattle.std.specs.Prelude.{ℕ, zero, suc, ◌+◌, ◌-◌, ◌*◌, ◌%◌, max, Bool, true, false, cond, List, [], ◌∷◌, map, length, set, replicate, ◌==◌, slice_index, slice_set}
+use Rattle.std.specs.Prelude.{ℕ, zero, suc, ◌+◌, ◌-◌, ◌*◌, ◌%◌, max, cond, List, [], ◌∷◌, map, length, set, replicate, ◌==◌, slice_index, slice_set}
 use Rattle.std.specs.List.{range_with_len}
 use Rattle.residual.specs.Net.{mate_of}
 use Rattle.residual.specs.Search.{levels}

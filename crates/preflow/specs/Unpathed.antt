@@ -2,7 +2,6 @@
 use Rattle.std.specs.Prelude.{◌≡◌, ℕ, true}
 use Rattle.drawing.specs.Counts.{Within}
 use Rattle.drawing.specs.Drawings.{Network, point_count, point, is_bar}
-use Rattle.drawing.specs.Plans.{Plan}
 use Rattle.drawing.specs.Labels.{is_near, is_far, label}
 use Rattle.drawing.specs.Answers.{Answer, Planned, Short}
 use Rattle.residual.specs.Paths.{ResidualPath}

@@ -1,6 +1,6 @@
 -- A text's lines are just those that it is cut into.
 use Rattle.std.proofs.Common.{◌≡◌, ℕ, eqb, ◌≢◌, List, [], ◌∷◌, ◌++◌, sym, refl, ap, ◌∙◌, subst, ap₂, inl, inr, ⊎_elim, arith}
-use Rattle.std.specs.List.{AllByRecursion as All}
+use Rattle.std.specs.List.{AllByRecursion}
 use Rattle.std.proofs.lemmas.List.{append_assoc, append-nil}
 use Rattle.std.proofs.lemmas.Bool.{cond-true, cond-false, eq-eqb, ne_eqb, cases_eq}
 use Rattle.reading.specs.Lines.{LF, grown, lines_of, ended, Unbroken, Joins, Cut, LinesExactly}
@@ -20,22 +20,22 @@ cut_last [] u ne = absurd (ne refl)
 cut_last (b ∷ []) u ne = cond-false (eqb b LF) _ _ (ne_eqb b LF u.0)
 cut_last (b ∷ (c ∷ l)) u ne = cond-false (eqb b LF) _ _ (ne_eqb b LF u.0) ∙ ap (grown b) (cut_last (c ∷ l) u.1 (cons_not_nil c l))
 
-cut_ended : (ls : List (List ℕ)) (rest : List ℕ) → All Unbroken ls → lines_of (ended ls ++ rest) ≡ ls ++ lines_of rest
+cut_ended : (ls : List (List ℕ)) (rest : List ℕ) → AllByRecursion Unbroken ls → lines_of (ended ls ++ rest) ≡ ls ++ lines_of rest
 unfolding ended
 cut_ended [] rest u = refl
 cut_ended (l ∷ ls) rest u =
     ap lines_of (append_assoc l (LF ∷ ended ls) rest) ∙ cut_first l (ended ls ++ rest) u.0 ∙ ap (λ ks. l ∷ ks) (cut_ended ls rest u.1)
 
-all_front : {A : Type 0} (P : A → Type 0) (xs ys : List A) → All P (xs ++ ys) → All P xs × All P ys
+all_front : {A : Type 0} (P : A → Type 0) (xs ys : List A) → AllByRecursion P (xs ++ ys) → AllByRecursion P xs × AllByRecursion P ys
 all_front P [] ys h = (tt, h)
 all_front P (x ∷ xs) ys h = let rest = all_front P xs ys h.1 in ((h.0, rest.0), rest.1)
 
-cut_joined : (t : List ℕ) (ls : List (List ℕ)) → All Unbroken ls → Joins t ls → lines_of t ≡ ls
+cut_joined : (t : List ℕ) (ls : List (List ℕ)) → AllByRecursion Unbroken ls → Joins t ls → lines_of t ≡ ls
 unfolding lines_of
 cut_joined t ls u (inl e) =
     ap lines_of (e ∙ sym (append-nil (ended ls))) ∙ cut_ended ls [] u ∙ append-nil ls
 cut_joined t ls u (inr (front, end, whole, e, ne)) =
-    let parts = all_front Unbroken front (end ∷ []) (subst (All Unbroken) whole u) in
+    let parts = all_front Unbroken front (end ∷ []) (subst (AllByRecursion Unbroken) whole u) in
     ap lines_of e ∙ cut_ended front end parts.0 ∙ ap (λ ks. front ++ ks) (cut_last end parts.1.0 ne) ∙ sym whole
 
 -- one more byte before a text that is cut
@@ -66,7 +66,7 @@ byte_joins b t [] (inr (front, end, whole, e, ne)) = absurd (no_end front end wh
 byte_joins b t (l ∷ ls) (inl e) = inl (ap (λ s. b ∷ s) e)
 byte_joins b t (l ∷ ls) (inr (front, end, whole, e, ne)) = byte_ends b t l ls front end whole e ne
 
-byte_unbroken : (b : ℕ) (ls : List (List ℕ)) → b ≢ LF → All Unbroken ls → All Unbroken (grown b ls)
+byte_unbroken : (b : ℕ) (ls : List (List ℕ)) → b ≢ LF → AllByRecursion Unbroken ls → AllByRecursion Unbroken (grown b ls)
 byte_unbroken b [] ne u = ((ne, tt), tt)
 byte_unbroken b (l ∷ ls) ne u = ((ne, u.0), u.1)
 

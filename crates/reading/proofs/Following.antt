@@ -1,6 +1,6 @@
 -- Lines after the head are accepted one after another just where all of them together keep the rules, and leave what they say.
 use Rattle.std.proofs.Common.{◌≡◌, ℕ, suc, ◌+◌, ◌≤◌, Bool, true, false, cond, not, ◌&&◌, ◌||◌, eqb, List, [], ◌∷◌, ◌++◌, length, is_some, Some, None, sym, refl, ap, ◌∙◌, subst, arith}
-use Rattle.std.specs.List.{AllByRecursion as All}
+use Rattle.std.specs.List.{AllByRecursion}
 use Rattle.std.proofs.lemmas.List.{append-nil, length-append, ext_get_or}
 use Rattle.std.proofs.lemmas.Bool.{and_parts, and_from, eqb-true, eq-eqb, true≢false}
 use Rattle.drawing.specs.declared.Point.{Point}
@@ -39,8 +39,8 @@ pub record Fits (f : Form) (m n : ℕ) (l : Load) (d : Network) : Type 0 where
   pub runs : d.runs ≡ l.runs
 
 pub record Follows (f : Form) (m : ℕ) (e : Network) (xs : List Item) (d : Network) : Type 0 where
-  pub known : All (Knows f) xs
-  pub bounded : All (InBounds (point_count e)) xs
+  pub known : AllByRecursion (Knows f) xs
+  pub bounded : AllByRecursion (InBounds (point_count e)) xs
   pub fits : Fits f m (point_count e) (load e xs) d
 
 -- the end
@@ -144,7 +144,7 @@ leaves_follows f m e (x ∷ xs) d h =
     let n = points_after e x in
     record {
       known = (here.0, rest.known);
-      bounded = (here.1, subst (λ k. All (InBounds k) xs) n rest.bounded);
+      bounded = (here.1, subst (λ k. AllByRecursion (InBounds k) xs) n rest.bounded);
       fits = subst (λ l. Fits f m (point_count e) l d) (sym (next_load f m e x xs a)) (subst (λ k. Fits f m k (load (rig_after e x) xs) d) n rest.fits);
     }
 
@@ -156,7 +156,7 @@ follows_leaves f m e (x ∷ xs) d few h =
     let n = sym (points_after e x) in
     let rest : Follows f m (rig_after e x) xs d = record {
       known = h.known.1;
-      bounded = subst (λ k. All (InBounds k) xs) n h.bounded.1;
+      bounded = subst (λ k. AllByRecursion (InBounds k) xs) n h.bounded.1;
       fits = subst (λ k. Fits f m k (load (rig_after e x) xs) d) n (subst (λ l. Fits f m (point_count e) l d) (next_load f m e x xs a) h.fits);
     } in
     (accepts f m e x a, follows_leaves f m (rig_after e x) xs d few rest)

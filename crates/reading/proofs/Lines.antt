@@ -1,6 +1,6 @@
 -- A text is read line by line just where its lines spell comments, a head, and lines that are accepted one after another.
 use Rattle.std.proofs.Common.{◌≡◌, ℕ, ◌+◌, Bool, true, false, cond, List, [], ◌∷◌, ◌++◌, Some, None, Ok, Err, Option, Result, sym, refl, ap, ◌∙◌, subst, arith}
-use Rattle.std.specs.List.{AllByRecursion as All}
+use Rattle.std.specs.List.{AllByRecursion}
 use Rattle.drawing.specs.declared.Refusal.{Refusal}
 use Rattle.drawing.specs.Drawings.{Network}
 use Rattle.rig_drawing.specs.Changes.{answered, plain_rig}
@@ -43,7 +43,7 @@ pub record Headed (ls : List (List ℕ)) (d : Network) : Type 0 where
   pub m : ℕ
   pub after : List Item
   pub spell : Spell ls (before ++ (item.Head form n m ∷ after))
-  pub comments : All IsComment before
+  pub comments : AllByRecursion IsComment before
   pub head : head_refusal n m ≡ None
   pub leaves : Leaves form m (plain_rig n) after d
 
@@ -126,7 +126,7 @@ comment_begun (item.PlainLead t hd up) c = absurd c
 comment_begun (item.Link t hd up) c = absurd c
 
 headed_reads : (before : List Item) (f : Form) (n m : ℕ) (after : List Item) (ls : List (List ℕ)) (k : ℕ) (d : Network) → Spell ls (before ++ (item.Head f n m ∷ after))
-    → All IsComment before → head_refusal n m ≡ None → Leaves f m (plain_rig n) after d → read_lines k unheaded ls ≡ Ok d
+    → AllByRecursion IsComment before → head_refusal n m ≡ None → Leaves f m (plain_rig n) after d → read_lines k unheaded ls ≡ Ok d
 unfolding Spell
 headed_reads [] f n m after [] k d s c ok h = absurd s
 headed_reads [] f n m after (l ∷ ls) k d s c ok h =

@@ -1,6 +1,6 @@
 -- A text is read as just the rig that it describes.
 use Rattle.std.proofs.Common.{◌≡◌, ℕ, zero, suc, ◌+◌, ◌≤◌, Bool, true, false, cond, List, length, get_or, replicate, is_some, None, Ok, Err, Result, sym, refl, ap, ◌∙◌, subst, subst₂, zero-add}
-use Rattle.std.specs.List.{AllByRecursion as All}
+use Rattle.std.specs.List.{AllByRecursion}
 use Rattle.std.proofs.lemmas.List.{length-replicate}
 use Rattle.std.proofs.lemmas.Bool.{leb-true, le-leb}
 use Rattle.drawing.specs.declared.Mark.TheVariants.{Plain}
@@ -75,7 +75,7 @@ headed_describes t d short h =
       point_range = range;
       run_range = few;
       known = follows.known;
-      bounded = subst (λ k. All (InBounds k) h.after) count follows.bounded;
+      bounded = subst (λ k. AllByRecursion (InBounds k) h.after) count follows.bounded;
       marked_once = fits.marked_once;
       limited_once = fits.limited_once;
       announced = fits.announced;
@@ -110,7 +110,7 @@ describes_headed t d h =
       head = head_accepts h.n h.m h.run_range h.point_range;
       leaves = follows_leaves h.form h.m (plain_rig h.n) h.after d h.run_range (record {
         known = h.known;
-        bounded = subst (λ k. All (InBounds k) h.after) count h.bounded;
+        bounded = subst (λ k. AllByRecursion (InBounds k) h.after) count h.bounded;
         fits = subst₂ (λ k l. Fits h.form h.m k l d) count (sym (plain_load h.n h.after)) fits;
       });
     }

@@ -1,6 +1,6 @@
 -- When a text describes a rig.
 use Rattle.std.specs.Prelude.{◌≡◌, ℕ, ◌≤◌, ◌↔◌, List, [], ◌∷◌, ◌++◌, length, None, Ok}
-use Rattle.std.specs.List.{AllByRecursion as All}
+use Rattle.std.specs.List.{AllByRecursion}
 use Rattle.drawing.specs.declared.Mark.TheVariants.{Plain}
 use Rattle.drawing.specs.declared.Run.{Run}
 use Rattle.drawing.specs.Counts.{Within}
@@ -68,12 +68,12 @@ pub record Describes (t : List ℕ) (d : Network) : Type 0 where
   pub short : length t ≤ 16384
   pub lines : Spell (lines_of t) (before ++ (item.Head form n m ∷ after))
   -- only comments stand before the head, and it names 1 to 60 points and at most 160 runs
-  pub comments : All IsComment before
+  pub comments : AllByRecursion IsComment before
   pub point_range : Within 60 n
   pub run_range : m ≤ 160
   -- the lines after it are of its form and in bounds; a point has at most one n line and one l line, and there are as many runs as announced
-  pub known : All (Knows form) after
-  pub bounded : All (InBounds n) after
+  pub known : AllByRecursion (Knows form) after
+  pub bounded : AllByRecursion (InBounds n) after
   pub marked_once : (v : ℕ) → length (marks_in after v) ≤ 1
   pub limited_once : (v : ℕ) → length (limits_in after v) ≤ 1
   pub announced : length (runs_in after) ≡ m

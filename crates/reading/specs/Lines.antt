@@ -1,6 +1,6 @@
 -- The lines of a text, which LF ends.
 use Rattle.std.specs.Prelude.{◌≡◌, ℕ, ◌-◌, min, Bool, cond, not, ◌≢◌, ◌⊎◌, ◌↔◌, List, [], ◌∷◌, ◌++◌, length, take, ◌==◌}
-use Rattle.std.specs.List.{AllByRecursion as All}
+use Rattle.std.specs.List.{AllByRecursion}
 
 -- the byte LF
 abbrev pub LF : ℕ
@@ -31,7 +31,7 @@ start_of t k = min (length t) (length (ended (take (k - 1) (lines_of t))))
 
 -- no byte of the line is LF
 abbrev pub Unbroken : List ℕ → Type 0
-Unbroken l = All (λ b. b ≢ LF) l
+Unbroken l = AllByRecursion (λ b. b ≢ LF) l
 
 -- the text is the lines, each followed by LF; or the last of them is not empty and stands without
 abbrev pub Joins : List ℕ → List (List ℕ) → Type 0
@@ -39,7 +39,7 @@ Joins t ls = (t ≡ ended ls) ⊎ ((front : List (List ℕ)) × (end : List ℕ)
 
 -- the text is cut into the lines
 pub record Cut (t : List ℕ) (ls : List (List ℕ)) : Type 0 where
-  pub unbroken : All Unbroken ls
+  pub unbroken : AllByRecursion Unbroken ls
   pub joins : Joins t ls
 
 -- a text's lines are just those that it is cut into

@@ -1,6 +1,5 @@
 -- Reading a text line by line: what each line adds to the rig, and which refusal a text meets, at which line.
 use Rattle.std.specs.Prelude.{ℕ, ◌+◌, Bool, true, false, cond, not, ◌&&◌, ◌||◌, List, [], ◌∷◌, length, is_some, Some, None, Ok, Err, Option, Result, ◌==◌, nat_le, nat_lt}
-use Rattle.drawing.specs.declared.Kind.TheVariants.{Lead, Link}
 use Rattle.drawing.specs.declared.Mark.{Mark}
 use Rattle.drawing.specs.declared.Run.{Run}
 use Rattle.drawing.specs.declared.Refusal.{Refusal}

@@ -27,21 +27,21 @@ module _ (xs : List Run) (n : ℕ) (t : ℕ → Bool) (make : ℕ → Run) where
   renamed : (k : ℕ) → k ≤ n → count_to k (λ i. t (nth (range_with_len 1 n) i 0)) ≡ count_to k t
   renamed k h = sum_same k _ _ (λ i w. ap (λ j. only (t j) 1) (nth_counting n i (omega arith)))
 
-  picked-count : length (filter t (range_with_len 1 n)) ≡ count_to n t
-  picked-count = length_picked t 0 (range_with_len 1 n) ∙ ap (λ z. count_to z (λ i. t (nth (range_with_len 1 n) i 0))) (length-range_with_len 1 n) ∙ renamed n (omega arith)
+  picked_count : length (filter t (range_with_len 1 n)) ≡ count_to n t
+  picked_count = length_picked t 0 (range_with_len 1 n) ∙ ap (λ z. count_to z (λ i. t (nth (range_with_len 1 n) i 0))) (length-range_with_len 1 n) ∙ renamed n (omega arith)
 
   pub count_all : length all ≡ length xs + count_to n t
-  count_all = length-append xs (added n t make) ∙ ap (λ z. length xs + z) (length-map (filter t (range_with_len 1 n)) make ∙ picked-count)
+  count_all = length-append xs (added n t make) ∙ ap (λ z. length xs + z) (length-map (filter t (range_with_len 1 n)) make ∙ picked_count)
 
-  rank-in : (v : ℕ) → Within n v → t v ≡ true → Within (count_to n t) (count_to v t)
-  rank-in zero w e = omega arith
-  rank-in (suc v) w e = omega (arith, sum_longer n (suc v) (λ i. only (t i) 1) w.1, ap (λ b. only b 1) e)
+  rank_in : (v : ℕ) → Within n v → t v ≡ true → Within (count_to n t) (count_to v t)
+  rank_in zero w e = omega arith
+  rank_in (suc v) w e = omega (arith, sum_longer n (suc v) (λ i. only (t i) 1) w.1, ap (λ b. only b 1) e)
 
   pub front_in : (k : ℕ) → Within (length xs) k → Within (length all) k
   front_in k w = omega (arith, count_all)
 
   pub place_in : (v : ℕ) → Within n v → t v ≡ true → Within (length all) (place v)
-  place_in v w e = omega (arith, count_all, rank-in v w e)
+  place_in v w e = omega (arith, count_all, rank_in v w e)
 
   pub at_front : (k : ℕ) → Within (length xs) k → nth all k no_run ≡ nth xs k no_run
   at_front k w = nth_front xs (added n t make) k no_run w
@@ -51,8 +51,8 @@ module _ (xs : List Run) (n : ℕ) (t : ℕ → Bool) (make : ℕ → Run) where
       let c = count_to v t in
       let in_list : Within (length (range_with_len 1 n)) v = omega (arith, length-range_with_len 1 n) in
       let passes : t (nth (range_with_len 1 n) v 0) ≡ true = ap t (nth_counting n v w) ∙ e in
-      nth_rest xs (added n t make) c no_run (rank-in v w e).0
-      ∙ nth_map make (filter t (range_with_len 1 n)) c 0 no_run (omega (arith, rank-in v w e, picked-count))
+      nth_rest xs (added n t make) c no_run (rank_in v w e).0
+      ∙ nth_map make (filter t (range_with_len 1 n)) c 0 no_run (omega (arith, rank_in v w e, picked_count))
       ∙ ap make (ap (λ z. nth (filter t (range_with_len 1 n)) z 0) (sym (renamed v w.1)) ∙ nth_picked t 0 (range_with_len 1 n) v in_list passes ∙ nth_counting n v w)
 
   -- a sum over all, by what was there and by what each v added

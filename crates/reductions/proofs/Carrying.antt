@@ -79,10 +79,10 @@ fits true n x h i = (refl, i)
 fits false n x h i = let no_such : ⊥ = omega arith in absurd no_such
 
 module _ (b : Statements) (e : Network) (modest : Modest b) (law : Lawful e) where
-  carried-by : point_count e ≤ b.points → run_count e ≤ b.runs → units e ≤ b.units
+  carried_by : point_count e ≤ b.points → run_count e ≤ b.runs → units e ≤ b.units
       → (uses e LowerBounds ≡ true → b.lowers ≡ true) → (uses e Links ≡ true → b.links ≡ true) → (uses e Limits ≡ true → b.limits ≡ true) → (uses e Terminals ≡ true → b.terminals ≡ true)
       → Carried b e
-  carried-by ps rs us lowers links limits terminals =
+  carried_by ps rs us lowers links limits terminals =
       let each : (f : Feature) → uses e f ≡ true → says_yes b f ≡ true = λ f. elim f as (λ g. uses e g ≡ true → says_yes b g ≡ true) [
         | LowerBounds ↦ lowers
         | Links ↦ links
@@ -101,11 +101,11 @@ module _ (d : Network) where
   abbrev m : ℕ
   m = run_count d
 
-  links-runs : run_count (links_below d) ≤ 2 * run_count d
-  links-runs = omega (arith, count_all (leads d) m (links d) (backs d), same_count d, count_le m (links d))
+  links_runs : run_count (links_below d) ≤ 2 * run_count d
+  links_runs = omega (arith, count_all (leads d) m (links d) (backs d), same_count d, count_le m (links d))
 
-  links-units : units (links_below d) ≤ 2 * units d
-  links-units =
+  links_units : units (links_below d) ≤ 2 * units d
+  links_units =
       omega (
         arith,
         sum_down d (λ r k. r.upper),
@@ -113,13 +113,13 @@ module _ (d : Network) where
         sum_below m (λ k. only (links d k) (run d k).upper) (λ k. (run d k).upper) (λ k w. only_le (links d k) (run d k).upper),
       )
 
-  links-links : uses (links_below d) Links ≡ false
-  links-links = some_none (run_count (links_below d)) _
+  links_links : uses (links_below d) Links ≡ false
+  links_links = some_none (run_count (links_below d)) _
       (each_all (leads d) m (links d) (backs d) (λ r k. is_link r.kind ≡ false)
       (λ k w. ap (λ r. is_link r.kind) (lead_is d k (omega (arith, same_count d)))) (λ k w e. refl))
 
-  links-lowers : Lawful d → uses d LowerBounds ≡ false → uses (links_below d) LowerBounds ≡ false
-  links-lowers law e = some_none (run_count (links_below d)) _
+  links_lowers : Lawful d → uses d LowerBounds ≡ false → uses (links_below d) LowerBounds ≡ false
+  links_lowers law e = some_none (run_count (links_below d)) _
       (each_all (leads d) m (links d) (backs d) (λ r k. (not (is_link r.kind) && ltb 0 r.lower) ≡ false)
       (λ k w. let i : Within m k = omega (arith, same_count d) in
       ap (λ r. not (is_link r.kind) && ltb 0 r.lower) (lead_is d k i) ∙ no_lower (is_link (run d k).kind) (run d k).lower (none_to m _ e k i) (law.each_run k i).link_lower)
@@ -131,10 +131,10 @@ links_modest b h = record { points = h.points; runs = omega (arith, h.runs); uni
 pub links_carried : (b : Statements) (d : Network) → Modest b → Carried (links_states b) d → Carried b (links_below d)
 links_carried b d modest c =
     let law = c.admissible.lawful in
-    carried-by b (links_below d) modest (links_lawful d law)
-    c.few_points (omega (arith, links-runs d, c.few_runs)) (omega (arith, links-units d, c.few_units))
-    (passed_on _ _ _ (links-lowers d law) (c.says_yes_to LowerBounds))
-    (unused _ _ (links-links d))
+    carried_by b (links_below d) modest (links_lawful d law)
+    c.few_points (omega (arith, links_runs d, c.few_runs)) (omega (arith, links_units d, c.few_units))
+    (passed_on _ _ _ (links_lowers d law) (c.says_yes_to LowerBounds))
+    (unused _ _ (links_links d))
     (c.says_yes_to Limits)
     (c.says_yes_to Terminals)
 
@@ -142,34 +142,34 @@ module _ (d : Network) (law : Lawful d) where
   abbrev n : ℕ
   n = point_count d
 
-  abbrev rackAt : ℕ → Bool
-  rackAt v = is_rack (point d v).mark
+  abbrev rack_at : ℕ → Bool
+  rack_at v = is_rack (point d v).mark
 
-  abbrev barAt : ℕ → Bool
-  barAt v = is_bar (point d v).mark
+  abbrev bar_at : ℕ → Bool
+  bar_at v = is_bar (point d v).mark
 
-  terminals-uppers : sum_to (run_count (terminals_below d)) (λ k. (run (terminals_below d) k).upper) ≤ 3 * sum_to (run_count d) (λ k. (run d k).upper)
-  terminals-uppers =
+  terminals_uppers : sum_to (run_count (terminals_below d)) (λ k. (run (terminals_below d) k).upper) ≤ 3 * sum_to (run_count d) (λ k. (run d k).upper)
+  terminals_uppers =
       let m = run_count d in
       let u : ℕ → ℕ = λ k. (run d k).upper in
       let l : ℕ → ℕ = λ k. only (is_link (run d k).kind) (u k) in
-      let O : ℕ → ℕ = λ k. only (rackAt (run d k).tail) (u k) + only (rackAt (run d k).head) (l k) in
-      let I : ℕ → ℕ = λ k. only (barAt (run d k).head) (u k) + only (barAt (run d k).tail) (l k) in
+      let O : ℕ → ℕ = λ k. only (rack_at (run d k).tail) (u k) + only (rack_at (run d k).head) (l k) in
+      let I : ℕ → ℕ = λ k. only (bar_at (run d k).head) (u k) + only (bar_at (run d k).tail) (l k) in
       omega (
         arith,
         sum_all d.runs n (is_terminal d) (terminal_lead d) (λ r k. r.upper),
-        sum_same n (λ v. only (is_terminal d v) (terminal_lead d v).upper) (λ v. only (rackAt v) (uppers_leaving d v) + only (barAt v) (uppers_entering d v))
+        sum_same n (λ v. only (is_terminal d v) (terminal_lead d v).upper) (λ v. only (rack_at v) (uppers_leaving d v) + only (bar_at v) (uppers_entering d v))
             (λ v w. lead_upper (point d v).mark (new_rack d) (new_bar d) v (uppers_leaving d v) (uppers_entering d v)),
-        sum_plus n (λ v. only (rackAt v) (uppers_leaving d v)) (λ v. only (barAt v) (uppers_entering d v)),
-        gather n m (λ k. (run d k).tail) (λ k. (run d k).head) u l rackAt (λ k w. (law.each_run k w).tail_in) (λ k w. (law.each_run k w).head_in),
-        gather n m (λ k. (run d k).head) (λ k. (run d k).tail) u l barAt (λ k w. (law.each_run k w).head_in) (λ k w. (law.each_run k w).tail_in),
+        sum_plus n (λ v. only (rack_at v) (uppers_leaving d v)) (λ v. only (bar_at v) (uppers_entering d v)),
+        gather n m (λ k. (run d k).tail) (λ k. (run d k).head) u l rack_at (λ k w. (law.each_run k w).tail_in) (λ k w. (law.each_run k w).head_in),
+        gather n m (λ k. (run d k).head) (λ k. (run d k).tail) u l bar_at (λ k w. (law.each_run k w).head_in) (λ k w. (law.each_run k w).tail_in),
         sum_below m (λ k. O k + I k) (λ k. u k + u k) (λ k w. at_ends (point d (run d k).tail).mark (point d (run d k).head).mark (is_link (run d k).kind) (u k)),
         sum_plus m O I,
         sum_plus m u u,
       )
 
-  terminals-limits : sum_to (point_count (terminals_below d)) (λ v. limit_of (point (terminals_below d) v).limit) ≡ sum_to n (λ v. limit_of (point d v).limit)
-  terminals-limits =
+  terminals_limits : sum_to (point_count (terminals_below d)) (λ v. limit_of (point (terminals_below d) v).limit) ≡ sum_to n (λ v. limit_of (point d v).limit)
+  terminals_limits =
       omega (
         arith,
         sum_points d (λ v. limit_of (point (terminals_below d) v).limit),
@@ -179,14 +179,14 @@ module _ (d : Network) (law : Lawful d) where
       )
 
   pub terminals_units : units (terminals_below d) ≤ 3 * units d
-  terminals_units = omega (arith, terminals-uppers, terminals-limits)
+  terminals_units = omega (arith, terminals_uppers, terminals_limits)
 
   pub terminals_runs : run_count (terminals_below d) ≤ run_count d + point_count d
   terminals_runs = omega (arith, count_all d.runs n (is_terminal d) (terminal_lead d), count_le n (is_terminal d))
 
   -- at the old points, the rack and the bar
-  each-point : (P : ℕ → Type 0) → ((v : ℕ) → Within n v → P v) → P (new_rack d) → P (new_bar d) → (v : ℕ) → Within (point_count (terminals_below d)) v → P v
-  each-point P old r b v w = ⊎_elim
+  each_point : (P : ℕ → Type 0) → ((v : ℕ) → Within n v → P v) → P (new_rack d) → P (new_bar d) → (v : ℕ) → Within (point_count (terminals_below d)) v → P v
+  each_point P old r b v w = ⊎_elim
       (λ (e : v ≡ new_rack d). subst P (sym e) r)
       (λ (e : v ≡ new_rack d → ⊥). ⊎_elim
       (λ (q : v ≡ new_bar d). subst P (sym q) b)
@@ -194,9 +194,9 @@ module _ (d : Network) (law : Lawful d) where
       (cases_eq v (new_bar d)))
       (cases_eq v (new_rack d))
 
-  terminals-limits-none : uses d Limits ≡ false → uses (terminals_below d) Limits ≡ false
-  terminals-limits-none e = some_none (point_count (terminals_below d)) _
-      (each-point (λ v. is_some (point (terminals_below d) v).limit ≡ false) (λ v w. ap (λ q. is_some q.limit) (old_point d v w) ∙ none_to n _ e v w)
+  terminals_limits_none : uses d Limits ≡ false → uses (terminals_below d) Limits ≡ false
+  terminals_limits_none e = some_none (point_count (terminals_below d)) _
+      (each_point (λ v. is_some (point (terminals_below d) v).limit ≡ false) (λ v w. ap (λ q. is_some q.limit) (old_point d v w) ∙ none_to n _ e v w)
       (ap (λ q. is_some q.limit) (the_rack d)) (ap (λ q. is_some q.limit) (the_bar d)))
 
   one_each : (count_to (point_count (terminals_below d)) (λ v. is_rack (point (terminals_below d) v).mark) ≡ 1) × (count_to (point_count (terminals_below d)) (λ v. is_bar (point (terminals_below d) v).mark) ≡ 1)
@@ -217,33 +217,33 @@ module _ (d : Network) (law : Lawful d) where
     ),
   )
 
-  terminals-one : uses (terminals_below d) Terminals ≡ false
-  terminals-one = not_from_true _ (and_from _ _ (eq-eqb _ 1 one_each.0) (eq-eqb _ 1 one_each.1))
+  terminals_one : uses (terminals_below d) Terminals ≡ false
+  terminals_one = not_from_true _ (and_from _ _ (eq-eqb _ 1 one_each.0) (eq-eqb _ 1 one_each.1))
 
-  terminals-lowers : uses d LowerBounds ≡ false → uses (terminals_below d) LowerBounds ≡ false
-  terminals-lowers e =
+  terminals_lowers : uses d LowerBounds ≡ false → uses (terminals_below d) LowerBounds ≡ false
+  terminals_lowers e =
       some_none (run_count (terminals_below d)) _
       (each_all d.runs n (is_terminal d) (terminal_lead d) (λ r k. (not (is_link r.kind) && ltb 0 r.lower) ≡ false)
-      (λ k w. none_to (run_count d) _ e k w) (λ v w t. (lead_bare (rackAt v) _ _ _ _ _).0))
+      (λ k w. none_to (run_count d) _ e k w) (λ v w t. (lead_bare (rack_at v) _ _ _ _ _).0))
 
-  terminals-links : uses d Links ≡ false → uses (terminals_below d) Links ≡ false
-  terminals-links e =
+  terminals_links : uses d Links ≡ false → uses (terminals_below d) Links ≡ false
+  terminals_links e =
       some_none (run_count (terminals_below d)) _
       (each_all d.runs n (is_terminal d) (terminal_lead d) (λ r k. is_link r.kind ≡ false)
-      (λ k w. none_to (run_count d) _ e k w) (λ v w t. (lead_bare (rackAt v) _ _ _ _ _).1))
+      (λ k w. none_to (run_count d) _ e k w) (λ v w t. (lead_bare (rack_at v) _ _ _ _ _).1))
 
   -- the limits layer
   abbrev m' : ℕ
   m' = run_count d
 
-  limits-uppers : sum_to (run_count (limits_below d)) (λ k. (run (limits_below d) k).upper) ≡ sum_to m' (λ k. (run d k).upper) + sum_to n (λ v. limit_of (point d v).limit)
-  limits-uppers = limits.sum_runs d (λ r k. r.upper) ∙ ap (λ z. sum_to m' (λ k. (run d k).upper) + z) (sum_same n _ _ (λ v w. only_limit (point d v).limit))
+  limits_uppers : sum_to (run_count (limits_below d)) (λ k. (run (limits_below d) k).upper) ≡ sum_to m' (λ k. (run d k).upper) + sum_to n (λ v. limit_of (point d v).limit)
+  limits_uppers = limits.sum_runs d (λ r k. r.upper) ∙ ap (λ z. sum_to m' (λ k. (run d k).upper) + z) (sum_same n _ _ (λ v w. only_limit (point d v).limit))
 
-  limits-runs : run_count (limits_below d) ≤ run_count d + point_count d
-  limits-runs = omega (arith, count_all (limits.kept d) n (limited_at d) (limit_lead d), limits.kept_count d, count_le n (limited_at d))
+  limits_runs : run_count (limits_below d) ≤ run_count d + point_count d
+  limits_runs = omega (arith, count_all (limits.kept d) n (limited_at d) (limit_lead d), limits.kept_count d, count_le n (limited_at d))
 
-  limits-none : (v : ℕ) → Within (point_count (limits_below d)) v → (is_some (point (limits_below d) v).limit ≡ false) × (limit_of (point (limits_below d) v).limit ≡ 0)
-  limits-none v w = ⊎_elim
+  limits_none : (v : ℕ) → Within (point_count (limits_below d)) v → (is_some (point (limits_below d) v).limit ≡ false) × (limit_of (point (limits_below d) v).limit ≡ 0)
+  limits_none v w = ⊎_elim
       (λ (h : n < v).
       let at : n + (v - n) ≡ v = omega arith in
       let i : Within n (v - n) = omega (arith, limits.point_count_lem d) in
@@ -252,11 +252,11 @@ module _ (d : Network) (law : Lawful d) where
       (λ (h : v ≤ n). let i : Within n v = omega arith in (ap (λ q. is_some q.limit) (limits.first_point d v i), ap (λ q. limit_of q.limit) (limits.first_point d v i)))
       (cases_lt n v)
 
-  limits-units : units (limits_below d) ≤ units d
-  limits-units = omega (arith, limits-uppers, sum_none (point_count (limits_below d)) (λ v. limit_of (point (limits_below d) v).limit) (λ v w. (limits-none v w).1))
+  limits_units : units (limits_below d) ≤ units d
+  limits_units = omega (arith, limits_uppers, sum_none (point_count (limits_below d)) (λ v. limit_of (point (limits_below d) v).limit) (λ v w. (limits_none v w).1))
 
-  limits-marks : (count_to (point_count (limits_below d)) (λ v. is_rack (point (limits_below d) v).mark) ≡ count_to n rackAt) × (count_to (point_count (limits_below d)) (λ v. is_bar (point (limits_below d) v).mark) ≡ count_to n barAt)
-  limits-marks =
+  limits_marks : (count_to (point_count (limits_below d)) (λ v. is_rack (point (limits_below d) v).mark) ≡ count_to n rack_at) × (count_to (point_count (limits_below d)) (λ v. is_bar (point (limits_below d) v).mark) ≡ count_to n bar_at)
+  limits_marks =
       let R : ℕ → ℕ = λ v. only (is_rack (point (limits_below d) v).mark) 1 in
       let B : ℕ → ℕ = λ v. only (is_bar (point (limits_below d) v).mark) 1 in (
         omega (
@@ -264,41 +264,41 @@ module _ (d : Network) (law : Lawful d) where
           ap (λ z. sum_to z R) (limits.point_count_lem d),
           sum_append n n R,
           sym (sum_plus n R (λ v. R (n + v))),
-          sum_same n (λ v. R v + R (n + v)) (λ v. only (rackAt v) 1) (λ v w. ap₂ (λ a b. only (is_rack a.mark) 1 + only (is_rack b.mark) 1) (limits.first_point d v w) (limits.second_point d v w) ∙ rack_split (point d v).mark (limited_at d v)),
+          sum_same n (λ v. R v + R (n + v)) (λ v. only (rack_at v) 1) (λ v w. ap₂ (λ a b. only (is_rack a.mark) 1 + only (is_rack b.mark) 1) (limits.first_point d v w) (limits.second_point d v w) ∙ rack_split (point d v).mark (limited_at d v)),
         ),
         omega (
           arith,
           ap (λ z. sum_to z B) (limits.point_count_lem d),
           sum_append n n B,
           sym (sum_plus n B (λ v. B (n + v))),
-          sum_same n (λ v. B v + B (n + v)) (λ v. only (barAt v) 1) (λ v w. ap₂ (λ a b. only (is_bar a.mark) 1 + only (is_bar b.mark) 1) (limits.first_point d v w) (limits.second_point d v w) ∙ bar_split (point d v).mark (limited_at d v)),
+          sum_same n (λ v. B v + B (n + v)) (λ v. only (bar_at v) 1) (λ v w. ap₂ (λ a b. only (is_bar a.mark) 1 + only (is_bar b.mark) 1) (limits.first_point d v w) (limits.second_point d v w) ∙ bar_split (point d v).mark (limited_at d v)),
         ),
       )
 
-  limits-runs-each : (t : Run → Bool) → ((k : ℕ) → Within m' k → t (moved d (run d k)) ≡ false) → ((v : ℕ) → t (limit_lead d v) ≡ false) → some_to (run_count (limits_below d)) (λ k. t (run (limits_below d) k)) ≡ false
-  limits-runs-each t h g = some_none (run_count (limits_below d)) _ (each_all (limits.kept d) n (limited_at d) (limit_lead d) (λ r k. t r ≡ false)
+  limits_runs_each : (t : Run → Bool) → ((k : ℕ) → Within m' k → t (moved d (run d k)) ≡ false) → ((v : ℕ) → t (limit_lead d v) ≡ false) → some_to (run_count (limits_below d)) (λ k. t (run (limits_below d) k)) ≡ false
+  limits_runs_each t h g = some_none (run_count (limits_below d)) _ (each_all (limits.kept d) n (limited_at d) (limit_lead d) (λ r k. t r ≡ false)
       (λ k w. let i : Within m' k = omega (arith, limits.kept_count d) in ap t (limits.kept_is d k i) ∙ h k i) (λ v w e. g v))
 
-  limits-lowers : uses d LowerBounds ≡ false → uses (limits_below d) LowerBounds ≡ false
-  limits-lowers e = limits-runs-each (λ r. not (is_link r.kind) && ltb 0 r.lower) (λ k w. none_to m' _ e k w) (λ v. refl)
+  limits_lowers : uses d LowerBounds ≡ false → uses (limits_below d) LowerBounds ≡ false
+  limits_lowers e = limits_runs_each (λ r. not (is_link r.kind) && ltb 0 r.lower) (λ k w. none_to m' _ e k w) (λ v. refl)
 
-  limits-links : uses d Links ≡ false → uses (limits_below d) Links ≡ false
-  limits-links e = limits-runs-each (λ r. is_link r.kind) (λ k w. none_to m' _ e k w) (λ v. refl)
+  limits_links : uses d Links ≡ false → uses (limits_below d) Links ≡ false
+  limits_links e = limits_runs_each (λ r. is_link r.kind) (λ k w. none_to m' _ e k w) (λ v. refl)
 
-  limits-terminals : uses d Terminals ≡ false → uses (limits_below d) Terminals ≡ false
-  limits-terminals e = ap₂ (λ a b. not (eqb a 1 && eqb b 1)) limits-marks.0 limits-marks.1 ∙ e
+  limits_terminals : uses d Terminals ≡ false → uses (limits_below d) Terminals ≡ false
+  limits_terminals e = ap₂ (λ a b. not (eqb a 1 && eqb b 1)) limits_marks.0 limits_marks.1 ∙ e
 
   -- the lower-bounds layer
   module _ (no_links : uses d Links ≡ false) (no_limits : uses d Limits ≡ false) (ends : uses d Terminals ≡ false) where
-    first-units : units (lowers_first d) ≤ 3 * units d
-    first-units =
+    first_units : units (lowers_first d) ≤ 3 * units d
+    first_units =
         let u : ℕ → ℕ = λ k. (run d k).upper in
         let l : ℕ → ℕ = λ k. (run d k).lower in
         let s : ℕ → ℕ = λ k. (run d k).upper - (run d k).lower in
         omega (
           arith,
           first.sum_runs d (λ r k. r.upper),
-          terminals-limits,
+          terminals_limits,
           sum_same m' (λ k. s k + l k) u (λ k w. let o = (law.each_run k w).ordered in omega arith),
           sum_plus m' s l,
           gather₁ n m' (λ k. (run d k).head) l (λ _. true) (λ k w. (law.each_run k w).head_in),
@@ -306,24 +306,24 @@ module _ (d : Network) (law : Lawful d) where
           sum_below m' (λ k. only (eqb (run d k).tail (old_rack d)) (u k)) u (λ k w. only_le (eqb (run d k).tail (old_rack d)) (u k)),
         )
 
-    second-units : (p : Plan) → Feasible (lowers_first d) p → units (lowers_second d p) ≤ units d
-    second-units p ok =
+    second_units : (p : Plan) → Feasible (lowers_first d) p → units (lowers_second d p) ≤ units d
+    second_units p ok =
         let u : ℕ → ℕ = λ k. (run d k).upper in
         let a : ℕ → ℕ = λ k. (run d k).upper - found d p k in
         let b : ℕ → ℕ = λ k. found d p k - (run d k).lower in
         omega (arith, sum_runs₂ d p (λ r k. r.upper), sum_plus m' a b, sum_below m' (λ k. a k + b k) u (λ k w. let r = found_range d law ends p ok k w in omega arith))
 
-    first-lowers : uses (lowers_first d) LowerBounds ≡ false
-    first-lowers = some_none (run_count (lowers_first d)) _ (first.each_run₁ d (λ r. (not (is_link r.kind) && ltb 0 r.lower) ≡ false) (λ k w. refl) (λ v w. (refl, refl)) refl)
+    first_lowers : uses (lowers_first d) LowerBounds ≡ false
+    first_lowers = some_none (run_count (lowers_first d)) _ (first.each_run₁ d (λ r. (not (is_link r.kind) && ltb 0 r.lower) ≡ false) (λ k w. refl) (λ v w. (refl, refl)) refl)
 
-    first-links : uses (lowers_first d) Links ≡ false
-    first-links = some_none (run_count (lowers_first d)) _ (first.each_run₁ d (λ r. is_link r.kind ≡ false) (λ k w. refl) (λ v w. (refl, refl)) refl)
+    first_links : uses (lowers_first d) Links ≡ false
+    first_links = some_none (run_count (lowers_first d)) _ (first.each_run₁ d (λ r. is_link r.kind ≡ false) (λ k w. refl) (λ v w. (refl, refl)) refl)
 
-    second-lowers : (p : Plan) → uses (lowers_second d p) LowerBounds ≡ false
-    second-lowers p = some_none (run_count (lowers_second d p)) _ (each_run₂ d p (λ r. (not (is_link r.kind) && ltb 0 r.lower) ≡ false) (λ k w. (refl, refl)))
+    second_lowers : (p : Plan) → uses (lowers_second d p) LowerBounds ≡ false
+    second_lowers p = some_none (run_count (lowers_second d p)) _ (each_run₂ d p (λ r. (not (is_link r.kind) && ltb 0 r.lower) ≡ false) (λ k w. (refl, refl)))
 
-    second-links : (p : Plan) → uses (lowers_second d p) Links ≡ false
-    second-links p = some_none (run_count (lowers_second d p)) _ (each_run₂ d p (λ r. is_link r.kind ≡ false) (λ k w. (refl, refl)))
+    second_links : (p : Plan) → uses (lowers_second d p) Links ≡ false
+    second_links p = some_none (run_count (lowers_second d p)) _ (each_run₂ d p (λ r. is_link r.kind ≡ false) (λ k w. (refl, refl)))
 
 pub terminals_modest : (b : Statements) → Modest b → Modest (terminals_states b)
 terminals_modest b h = record {
@@ -339,14 +339,14 @@ terminals_carried b d modest c =
     let (two?, own?) = and_parts _ _ fit in
     let two = leb-true 2 b.points two? in
     let own = leb-true (b.points - 2) b.runs own? in
-    carried-by b (terminals_below d) modest (terminals_lawful d law)
+    carried_by b (terminals_below d) modest (terminals_lawful d law)
     (omega (arith, point_count_lem d, ps, two))
     (omega (arith, terminals_runs d law, ps, own, c.few_runs, only_le (terminals_fit b) (b.runs - (b.points - 2))))
     (omega (arith, terminals_units d law, c.few_units, only_le (terminals_fit b) (b.units / 3)))
-    (passed_on _ _ _ (terminals-lowers d law) (c.says_yes_to LowerBounds))
-    (passed_on _ _ _ (terminals-links d law) (c.says_yes_to Links))
-    (passed_on _ _ _ (terminals-limits-none d law) (c.says_yes_to Limits))
-    (unused _ _ (terminals-one d law))
+    (passed_on _ _ _ (terminals_lowers d law) (c.says_yes_to LowerBounds))
+    (passed_on _ _ _ (terminals_links d law) (c.says_yes_to Links))
+    (passed_on _ _ _ (terminals_limits_none d law) (c.says_yes_to Limits))
+    (unused _ _ (terminals_one d law))
 
 -- a run below is kept for each point
 pub terminals_room : (b : Statements) (d : Network) → Modest b → Carried (terminals_states b) d → run_count d + point_count d ≤ 1024
@@ -368,14 +368,14 @@ limits_carried b d modest c =
     let law = c.admissible.lawful in
     let (fit, ps) = fits (limits_fit b) (point_count d) (b.points / 2) law.some_point c.few_points in
     let own = leb-true (b.points / 2) b.runs fit in
-    carried-by b (limits_below d) modest (limits.limits_lawful d law)
+    carried_by b (limits_below d) modest (limits.limits_lawful d law)
     (omega (arith, limits.point_count_lem d, ps))
-    (omega (arith, limits-runs d law, ps, own, c.few_runs, only_le (limits_fit b) (b.runs - b.points / 2)))
-    (omega (arith, limits-units d law, c.few_units, only_le (limits_fit b) b.units))
-    (passed_on _ _ _ (limits-lowers d law) (c.says_yes_to LowerBounds))
-    (unused _ _ (limits-links d law (not_used _ (c.says_yes_to Links))))
-    (unused _ _ (some_none (point_count (limits_below d)) _ (λ v w. (limits-none d law v w).0)))
-    (passed_on _ _ _ (limits-terminals d law) (c.says_yes_to Terminals))
+    (omega (arith, limits_runs d law, ps, own, c.few_runs, only_le (limits_fit b) (b.runs - b.points / 2)))
+    (omega (arith, limits_units d law, c.few_units, only_le (limits_fit b) b.units))
+    (passed_on _ _ _ (limits_lowers d law) (c.says_yes_to LowerBounds))
+    (unused _ _ (limits_links d law (not_used _ (c.says_yes_to Links))))
+    (unused _ _ (some_none (point_count (limits_below d)) _ (λ v w. (limits_none d law v w).0)))
+    (passed_on _ _ _ (limits_terminals d law) (c.says_yes_to Terminals))
 
 pub limits_room : (b : Statements) (d : Network) → Modest b → Carried (limits_states b) d → run_count d + point_count d ≤ 1024
 limits_room b d modest c =
@@ -421,27 +421,27 @@ module _ (b : Statements) (d : Network) (modest : Modest b) (c : Carried (lowers
       let (two?, own?) = and_parts _ _ fit in
       (leb-true 2 b.points two?, leb-true (2 * (b.points - 2) + 1) b.runs own?, ps)
 
-  runs-room : run_count d ≤ min (b.runs / 2) (b.runs - 2 * (b.points - 2) - 1)
-  runs-room = omega (arith, c.few_runs, only_le (lowers_fit b) (min (b.runs / 2) (b.runs - 2 * (b.points - 2) - 1)))
+  runs_room : run_count d ≤ min (b.runs / 2) (b.runs - 2 * (b.points - 2) - 1)
+  runs_room = omega (arith, c.few_runs, only_le (lowers_fit b) (min (b.runs / 2) (b.runs - 2 * (b.points - 2) - 1)))
 
   pub lowers_first_carried : Carried b (lowers_first d)
   lowers_first_carried =
-      carried-by b (lowers_first d) modest (first.first_lawful d given.one_each law)
+      carried_by b (lowers_first d) modest (first.first_lawful d given.one_each law)
       (omega (arith, point_count_lem d, room))
-      (omega (arith, first.run_count_lem d, room, runs-room))
-      (omega (arith, first-units d law given.no_links given.no_limits given.one_each, c.few_units, only_le (lowers_fit b) (b.units / 3)))
-      (unused _ _ (first-lowers d law given.no_links given.no_limits given.one_each))
-      (unused _ _ (first-links d law given.no_links given.no_limits given.one_each))
-      (unused _ _ (terminals-limits-none d law given.no_limits))
-      (unused _ _ (terminals-one d law))
+      (omega (arith, first.run_count_lem d, room, runs_room))
+      (omega (arith, first_units d law given.no_links given.no_limits given.one_each, c.few_units, only_le (lowers_fit b) (b.units / 3)))
+      (unused _ _ (first_lowers d law given.no_links given.no_limits given.one_each))
+      (unused _ _ (first_links d law given.no_links given.no_limits given.one_each))
+      (unused _ _ (terminals_limits_none d law given.no_limits))
+      (unused _ _ (terminals_one d law))
 
   pub lowers_second_carried : (p : Plan) → Feasible (lowers_first d) p → Carried b (lowers_second d p)
   lowers_second_carried p ok =
-      carried-by b (lowers_second d p) modest (second_lawful d p law)
+      carried_by b (lowers_second d p) modest (second_lawful d p law)
       (omega (arith, room))
-      (omega (arith, run_count₂ d p, runs-room))
-      (omega (arith, second-units d law given.no_links given.no_limits given.one_each p ok, c.few_units, only_le (lowers_fit b) (b.units / 3)))
-      (unused _ _ (second-lowers d law given.no_links given.no_limits given.one_each p))
-      (unused _ _ (second-links d law given.no_links given.no_limits given.one_each p))
+      (omega (arith, run_count₂ d p, runs_room))
+      (omega (arith, second_units d law given.no_links given.no_limits given.one_each p ok, c.few_units, only_le (lowers_fit b) (b.units / 3)))
+      (unused _ _ (second_lowers d law given.no_links given.no_limits given.one_each p))
+      (unused _ _ (second_links d law given.no_links given.no_limits given.one_each p))
       (unused _ _ given.no_limits)
       (unused _ _ given.one_each)

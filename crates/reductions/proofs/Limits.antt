@@ -1,5 +1,5 @@
 -- The limits layer: the network below is lawful, and a right answer to it is read as a right answer.
-use Rattle.std.proofs.Common.{◌≡◌, ℕ, suc, ◌+◌, ◌-◌, ◌≤◌, Bool, true, false, cond, not, ◌&&◌, eqb, ◌≢◌, ◌⊎◌, List, map, length, get_or, ℤ, pos, ◌≤ℤ◌, is_some, Some, None, sym, refl, ap, ◌∙◌, subst, ap₂, ⊎_elim, true≢false, zero-le, add-one, arith, length-append}
+use Rattle.std.proofs.Common.{◌≡◌, ℕ, suc, ◌+◌, ◌≤◌, Bool, true, false, cond, not, ◌&&◌, eqb, List, map, length, get_or, ℤ, pos, ◌≤ℤ◌, is_some, Some, None, sym, refl, ap, ◌∙◌, subst, ap₂, ⊎_elim, true≢false, zero-le, add-one, arith, length-append}
 use mathlib.Core.Path.{subst₃}
 use Rattle.std.proofs.lemmas.Int.{ints}
 use Rattle.std.proofs.lemmas.List.{length-map}
@@ -58,64 +58,64 @@ module _ (d : Network) where
   pub second_point : (v : ℕ) → Within n v → point (limits_below d) (n + v) ≡ beyond (point d v)
   second_point v w = ap (λ z. point (limits_below d) (z + v)) (sym first_count) ∙ nth_rest firsts seconds v no_point w.0 ∙ nth_map beyond d.points v no_point no_point w
 
-  first-in : (v : ℕ) → Within n v → Within (point_count (limits_below d)) v
-  first-in v w = omega (arith, point_count_lem)
+  first_in : (v : ℕ) → Within n v → Within (point_count (limits_below d)) v
+  first_in v w = omega (arith, point_count_lem)
 
-  second-in : (v : ℕ) → Within n v → Within (point_count (limits_below d)) (n + v)
-  second-in v w = omega (arith, point_count_lem)
+  second_in : (v : ℕ) → Within n v → Within (point_count (limits_below d)) (n + v)
+  second_in v w = omega (arith, point_count_lem)
 
   exit_in : (v : ℕ) → Within n v → Within (point_count (limits_below d)) (exit d v)
   exit_in v w = by (limited_at d v)
     where
       by : (b : Bool) → Within (point_count (limits_below d)) (cond b (n + v) v)
-      by true = second-in v w
-      by false = first-in v w
+      by true = second_in v w
+      by false = first_in v w
 
   -- the number below of the lead for the limit of v
-  abbrev limitLeadOf : ℕ → ℕ
-  limitLeadOf v = m + count_to v (limited_at d)
+  abbrev limit_lead_of : ℕ → ℕ
+  limit_lead_of v = m + count_to v (limited_at d)
 
-  limit-lead-place : (v : ℕ) → place kept n (limited_at d) (limit_lead d) v ≡ limitLeadOf v
-  limit-lead-place v = ap (λ z. z + count_to v (limited_at d)) kept_count
+  limit_lead_place : (v : ℕ) → place kept n (limited_at d) (limit_lead d) v ≡ limit_lead_of v
+  limit_lead_place v = ap (λ z. z + count_to v (limited_at d)) kept_count
 
   pub kept_is : (k : ℕ) → Within m k → nth kept k no_run ≡ moved d (run d k)
   kept_is k w = nth_map (moved d) d.runs k no_run no_run w
 
-  old-run : (k : ℕ) → Within m k → run (limits_below d) k ≡ moved d (run d k)
-  old-run k w = at_front kept n (limited_at d) (limit_lead d) k (omega (arith, kept_count)) ∙ kept_is k w
+  old_run : (k : ℕ) → Within m k → run (limits_below d) k ≡ moved d (run d k)
+  old_run k w = at_front kept n (limited_at d) (limit_lead d) k (omega (arith, kept_count)) ∙ kept_is k w
 
-  old-run-in : (k : ℕ) → Within m k → Within (run_count (limits_below d)) k
-  old-run-in k w = front_in kept n (limited_at d) (limit_lead d) k (omega (arith, kept_count))
+  old_run_in : (k : ℕ) → Within m k → Within (run_count (limits_below d)) k
+  old_run_in k w = front_in kept n (limited_at d) (limit_lead d) k (omega (arith, kept_count))
 
-  limit-lead-is : (v : ℕ) → Within n v → limited_at d v ≡ true → run (limits_below d) (limitLeadOf v) ≡ limit_lead d v
-  limit-lead-is v w e = ap (run (limits_below d)) (sym (limit-lead-place v)) ∙ at_place kept n (limited_at d) (limit_lead d) v w e
+  limit_lead_is : (v : ℕ) → Within n v → limited_at d v ≡ true → run (limits_below d) (limit_lead_of v) ≡ limit_lead d v
+  limit_lead_is v w e = ap (run (limits_below d)) (sym (limit_lead_place v)) ∙ at_place kept n (limited_at d) (limit_lead d) v w e
 
-  limit-lead-in : (v : ℕ) → Within n v → limited_at d v ≡ true → Within (run_count (limits_below d)) (limitLeadOf v)
-  limit-lead-in v w e = subst (Within (run_count (limits_below d))) (limit-lead-place v) (place_in kept n (limited_at d) (limit_lead d) v w e)
+  limit_lead_in : (v : ℕ) → Within n v → limited_at d v ≡ true → Within (run_count (limits_below d)) (limit_lead_of v)
+  limit_lead_in v w e = subst (Within (run_count (limits_below d))) (limit_lead_place v) (place_in kept n (limited_at d) (limit_lead d) v w e)
 
   pub sum_runs : (g : Run → ℕ → ℕ) → sum_to (run_count (limits_below d)) (λ k. g (run (limits_below d) k) k)
-      ≡ sum_to m (λ k. g (moved d (run d k)) k) + sum_to n (λ v. only (limited_at d v) (g (limit_lead d v) (limitLeadOf v)))
+      ≡ sum_to m (λ k. g (moved d (run d k)) k) + sum_to n (λ v. only (limited_at d v) (g (limit_lead d v) (limit_lead_of v)))
   sum_runs g =
       sum_all kept n (limited_at d) (limit_lead d) g
       ∙ ap₂ ◌+◌ (ap (λ z. sum_to z (λ k. g (nth kept k no_run) k)) kept_count ∙ sum_same m _ _ (λ k w. ap (λ r. g r k) (kept_is k w)))
-      (sum_same n _ _ (λ v w. ap (λ z. only (limited_at d v) (g (limit_lead d v) z)) (limit-lead-place v)))
+      (sum_same n _ _ (λ v w. ap (λ z. only (limited_at d v) (g (limit_lead d v) z)) (limit_lead_place v)))
 
 pub limits_lawful : (d : Network) → Lawful d → Lawful (limits_below d)
 limits_lawful d law =
     record {
       some_point = omega (arith, point_count_lem d, law.some_point);
       each_run = each_all (kept d) (n d) (limited_at d) (limit_lead d) (λ r k. LawfulRun (point_count (limits_below d)) r)
-          (λ k w. let u : Within (m d) k = omega (arith, kept_count d) in subst (LawfulRun (point_count (limits_below d))) (sym (kept_is d k u)) (old-lawful k u))
-          (λ v w e. record { tail_in = first-in d v w; head_in = second-in d v w; apart = λ q. omega (arith, law.some_point); ordered = zero-le; link_lower = λ e. refl });
+          (λ k w. let u : Within (m d) k = omega (arith, kept_count d) in subst (LawfulRun (point_count (limits_below d))) (sym (kept_is d k u)) (old_lawful k u))
+          (λ v w e. record { tail_in = first_in d v w; head_in = second_in d v w; apart = λ q. omega (arith, law.some_point); ordered = zero-le; link_lower = λ e. refl });
     }
   where
     tail_apart : (b : Bool) (t h : ℕ) → Within (point_count d) t → Within (point_count d) h → (t ≡ h → ⊥) → cond b (point_count d + t) t ≡ h → ⊥
     tail_apart true t h u w ne q = omega arith
     tail_apart false t h u w ne q = ne q
 
-    old-lawful : (k : ℕ) → Within (run_count d) k → LawfulRun (point_count (limits_below d)) (moved d (run d k))
-    old-lawful k u = let h = law.each_run k u in
-        record { tail_in = exit_in d _ h.tail_in; head_in = first-in d _ h.head_in; apart = tail_apart (limited_at d (run d k).tail) (run d k).tail (run d k).head h.tail_in h.head_in h.apart; ordered = h.ordered; link_lower = h.link_lower }
+    old_lawful : (k : ℕ) → Within (run_count d) k → LawfulRun (point_count (limits_below d)) (moved d (run d k))
+    old_lawful k u = let h = law.each_run k u in
+        record { tail_in = exit_in d _ h.tail_in; head_in = first_in d _ h.head_in; apart = tail_apart (limited_at d (run d k).tail) (run d k).tail (run d k).head h.tail_in h.head_in h.apart; ordered = h.ordered; link_lower = h.link_lower }
 
 no_back : (k : Kind) (lo up : ℕ) (f : ℤ) → is_link k ≡ false → InRange k lo up f → back f ≡ 0
 no_back Lead lo up f e h = (lead_flow lo up f h).2
@@ -147,31 +147,31 @@ moved_test f t v x = ⊎_elim
     (cases_eq t v)
 
 module _ (d : Network) (law : Lawful d) (links_below : uses d Links ≡ false) (p : Plan) (ok : Feasible (limits_below d) p) where
-  old-range : (k : ℕ) → Within (m d) k → InRange (run d k).kind (run d k).lower (run d k).upper (flow p k)
-  old-range k w = subst (λ r. InRange r.kind r.lower r.upper (flow p k)) (old-run d k w) (ok.in_range k (old-run-in d k w))
+  old_range : (k : ℕ) → Within (m d) k → InRange (run d k).kind (run d k).lower (run d k).upper (flow p k)
+  old_range k w = subst (λ r. InRange r.kind r.lower r.upper (flow p k)) (old_run d k w) (ok.in_range k (old_run_in d k w))
 
   forward : (k : ℕ) → Within (m d) k → back (flow p k) ≡ 0
-  forward k w = no_back (run d k).kind _ _ (flow p k) (none_to (m d) _ links_below k w) (old-range k w)
+  forward k w = no_back (run d k).kind _ _ (flow p k) (none_to (m d) _ links_below k w) (old_range k w)
 
   abbrev through : ℕ → ℕ
-  through v = forth (flow p (limitLeadOf d v))
+  through v = forth (flow p (limit_lead_of d v))
 
-  limit-lead-range : (v : ℕ) → Within (n d) v → limited_at d v ≡ true → (through v ≤ limit_of (point d v).limit) × (back (flow p (limitLeadOf d v)) ≡ 0)
-  limit-lead-range v w e =
-      let h = lead_flow 0 (limit_of (point d v).limit) (flow p (limitLeadOf d v)) (subst (λ r. InRange r.kind r.lower r.upper (flow p (limitLeadOf d v))) (limit-lead-is d v w e) (ok.in_range (limitLeadOf d v) (limit-lead-in d v w e))) in
+  limit_lead_range : (v : ℕ) → Within (n d) v → limited_at d v ≡ true → (through v ≤ limit_of (point d v).limit) × (back (flow p (limit_lead_of d v)) ≡ 0)
+  limit_lead_range v w e =
+      let h = lead_flow 0 (limit_of (point d v).limit) (flow p (limit_lead_of d v)) (subst (λ r. InRange r.kind r.lower r.upper (flow p (limit_lead_of d v))) (limit_lead_is d v w e) (ok.in_range (limit_lead_of d v) (limit_lead_in d v w e))) in
       (h.1, h.2)
 
   abbrev q : Plan
   q = limits_plan d p
 
-  flow-is : (k : ℕ) → Within (m d) k → flow q k ≡ flow p k
-  flow-is k w = nth_made (flow p) (m d) k (pos 0) w
+  flow_is : (k : ℕ) → Within (m d) k → flow q k ≡ flow p k
+  flow_is k w = nth_made (flow p) (m d) k (pos 0) w
 
-  supply-is : (v : ℕ) → Within (n d) v → supply q v ≡ supply p v
-  supply-is v w = nth_made (supply p) (n d) v 0 w
+  supply_is : (v : ℕ) → Within (n d) v → supply q v ≡ supply p v
+  supply_is v w = nth_made (supply p) (n d) v 0 w
 
-  delivery-is : (v : ℕ) → Within (n d) v → delivery q v ≡ delivery p (exit d v)
-  delivery-is v w = nth_made (λ u. delivery p (exit d u)) (n d) v 0 w
+  delivery_is : (v : ℕ) → Within (n d) v → delivery q v ≡ delivery p (exit d v)
+  delivery_is v w = nth_made (λ u. delivery p (exit d u)) (n d) v 0 w
 
   -- by runs, to and from v, as all are leads
   abbrev to : ℕ → ℕ → ℕ
@@ -180,58 +180,58 @@ module _ (d : Network) (law : Lawful d) (links_below : uses d Links ≡ false) (
   abbrev from : ℕ → ℕ → ℕ
   from v k = only (eqb (run d k).tail v) (forth (flow p k))
 
-  entering-is : (v : ℕ) → entering d q v ≡ sum_to (m d) (to v)
-  entering-is v = sum_same (m d) _ (to v) (λ k w. ap (λ f. brings (run d k) f v) (flow-is k w) ∙ omega (arith, ap (only (eqb (run d k).tail v)) (forward k w), only_zero (eqb (run d k).tail v)))
+  entering_is : (v : ℕ) → entering d q v ≡ sum_to (m d) (to v)
+  entering_is v = sum_same (m d) _ (to v) (λ k w. ap (λ f. brings (run d k) f v) (flow_is k w) ∙ omega (arith, ap (only (eqb (run d k).tail v)) (forward k w), only_zero (eqb (run d k).tail v)))
 
-  leaving-is : (v : ℕ) → leaving d q v ≡ sum_to (m d) (from v)
-  leaving-is v = sum_same (m d) _ (from v) (λ k w. ap (λ f. takes (run d k) f v) (flow-is k w) ∙ omega (arith, ap (only (eqb (run d k).head v)) (forward k w), only_zero (eqb (run d k).head v)))
+  leaving_is : (v : ℕ) → leaving d q v ≡ sum_to (m d) (from v)
+  leaving_is v = sum_same (m d) _ (from v) (λ k w. ap (λ f. takes (run d k) f v) (flow_is k w) ∙ omega (arith, ap (only (eqb (run d k).head v)) (forward k w), only_zero (eqb (run d k).head v)))
 
   -- by the leads for limits
-  limit-lead-brings : (u v : ℕ) → Within (n d) u → only (limited_at d u) (brings (limit_lead d u) (flow p (limitLeadOf d u)) v) ≡ only (limited_at d u) (only (eqb (n d + u) v) (through u))
-  limit-lead-brings u v w = only_same (limited_at d u) _ _ (λ e. omega (arith, ap (only (eqb u v)) (limit-lead-range u w e).1, only_zero (eqb u v)))
+  limit_lead_brings : (u v : ℕ) → Within (n d) u → only (limited_at d u) (brings (limit_lead d u) (flow p (limit_lead_of d u)) v) ≡ only (limited_at d u) (only (eqb (n d + u) v) (through u))
+  limit_lead_brings u v w = only_same (limited_at d u) _ _ (λ e. omega (arith, ap (only (eqb u v)) (limit_lead_range u w e).1, only_zero (eqb u v)))
 
-  limit-lead-takes : (u v : ℕ) → Within (n d) u → only (limited_at d u) (takes (limit_lead d u) (flow p (limitLeadOf d u)) v) ≡ only (limited_at d u) (only (eqb u v) (through u))
-  limit-lead-takes u v w = only_same (limited_at d u) _ _ (λ e. omega (arith, ap (only (eqb (n d + u) v)) (limit-lead-range u w e).1, only_zero (eqb (n d + u) v)))
+  limit_lead_takes : (u v : ℕ) → Within (n d) u → only (limited_at d u) (takes (limit_lead d u) (flow p (limit_lead_of d u)) v) ≡ only (limited_at d u) (only (eqb u v) (through u))
+  limit_lead_takes u v w = only_same (limited_at d u) _ _ (λ e. omega (arith, ap (only (eqb (n d + u) v)) (limit_lead_range u w e).1, only_zero (eqb (n d + u) v)))
 
   module _ (v : ℕ) (w : Within (n d) v) where
-    first-entering : entering (limits_below d) p v ≡ entering d q v
-    first-entering = sum_runs d (λ r k. brings r (flow p k) v) ∙
+    first_entering : entering (limits_below d) p v ≡ entering d q v
+    first_entering = sum_runs d (λ r k. brings r (flow p k) v) ∙
         omega (
           arith,
-          entering-is v,
+          entering_is v,
           sum_same (m d) (λ k. brings (moved d (run d k)) (flow p k) v) (to v)
               (λ k i. omega (arith, ap (only (eqb (exit d (run d k).tail) v)) (forward k i), only_zero (eqb (exit d (run d k).tail) v))),
-          sum_none (n d) (λ u. only (limited_at d u) (brings (limit_lead d u) (flow p (limitLeadOf d u)) v))
-              (λ u i. limit-lead-brings u v i ∙ ap (λ c. only (limited_at d u) (only c (through u))) (ne_eqb (n d + u) v (λ q. omega arith)) ∙ only_zero (limited_at d u)),
+          sum_none (n d) (λ u. only (limited_at d u) (brings (limit_lead d u) (flow p (limit_lead_of d u)) v))
+              (λ u i. limit_lead_brings u v i ∙ ap (λ c. only (limited_at d u) (only c (through u))) (ne_eqb (n d + u) v (λ q. omega arith)) ∙ only_zero (limited_at d u)),
         )
 
-    first-leaving : leaving (limits_below d) p v ≡ only (not (limited_at d v)) (leaving d q v) + only (limited_at d v) (through v)
-    first-leaving = sum_runs d (λ r k. takes r (flow p k) v) ∙
+    first_leaving : leaving (limits_below d) p v ≡ only (not (limited_at d v)) (leaving d q v) + only (limited_at d v) (through v)
+    first_leaving = sum_runs d (λ r k. takes r (flow p k) v) ∙
         ap₂ ◌+◌
         (sum_same (m d) _ (λ k. only (not (limited_at d v)) (from v k))
         (λ k i. let r = run d k in
         let back_none = ap (only (eqb r.head v)) (forward k i) ∙ only_zero (eqb r.head v) in
         let here = exit_here (limited_at d r.tail) (n d) r.tail v (forth (flow p k)) (law.each_run k i).tail_in w in
         omega (arith, back_none, here, moved_test (λ z. not (limited_at d z)) r.tail v (forth (flow p k))))
-        ∙ sym (only_sum (not (limited_at d v)) (m d) (from v)) ∙ ap (only (not (limited_at d v))) (sym (leaving-is v)))
-        (sum_same (n d) _ (λ u. only (eqb u v) (only (limited_at d u) (through u))) (λ u i. limit-lead-takes u v i ∙ only_swap (limited_at d u) (eqb u v) (through u))
+        ∙ sym (only_sum (not (limited_at d v)) (m d) (from v)) ∙ ap (only (not (limited_at d v))) (sym (leaving_is v)))
+        (sum_same (n d) _ (λ u. only (eqb u v) (only (limited_at d u) (through u))) (λ u i. limit_lead_takes u v i ∙ only_swap (limited_at d u) (eqb u v) (through u))
         ∙ sum_at (n d) v (λ u. only (limited_at d u) (through u)) w)
 
-    second-entering : entering (limits_below d) p (n d + v) ≡ only (limited_at d v) (through v)
-    second-entering = sum_runs d (λ r k. brings r (flow p k) (n d + v)) ∙
+    second_entering : entering (limits_below d) p (n d + v) ≡ only (limited_at d v) (through v)
+    second_entering = sum_runs d (λ r k. brings r (flow p k) (n d + v)) ∙
         omega (
           arith,
           sum_none (m d) (λ k. brings (moved d (run d k)) (flow p k) (n d + v))
               (λ k i. let r = run d k in
               let h = (law.each_run k i).head_in in
               omega (arith, ap (only (eqb (exit d r.tail) (n d + v))) (forward k i), only_zero (eqb (exit d r.tail) (n d + v)), ap (λ c. only c (forth (flow p k))) (ne_eqb r.head (n d + v) (λ q. omega arith)))),
-          sum_same (n d) (λ u. only (limited_at d u) (brings (limit_lead d u) (flow p (limitLeadOf d u)) (n d + v))) (λ u. only (eqb u v) (only (limited_at d u) (through u)))
-              (λ u i. limit-lead-brings u (n d + v) i ∙ ap (λ c. only (limited_at d u) (only c (through u))) (same_test (n d) u v) ∙ only_swap (limited_at d u) (eqb u v) (through u)),
+          sum_same (n d) (λ u. only (limited_at d u) (brings (limit_lead d u) (flow p (limit_lead_of d u)) (n d + v))) (λ u. only (eqb u v) (only (limited_at d u) (through u)))
+              (λ u i. limit_lead_brings u (n d + v) i ∙ ap (λ c. only (limited_at d u) (only c (through u))) (same_test (n d) u v) ∙ only_swap (limited_at d u) (eqb u v) (through u)),
           sum_at (n d) v (λ u. only (limited_at d u) (through u)) w,
         )
 
-    second-leaving : leaving (limits_below d) p (n d + v) ≡ only (limited_at d v) (leaving d q v)
-    second-leaving = sum_runs d (λ r k. takes r (flow p k) (n d + v)) ∙
+    second_leaving : leaving (limits_below d) p (n d + v) ≡ only (limited_at d v) (leaving d q v)
+    second_leaving = sum_runs d (λ r k. takes r (flow p k) (n d + v)) ∙
         omega (
           arith,
           sum_same (m d) (λ k. takes (moved d (run d k)) (flow p k) (n d + v)) (λ k. only (limited_at d v) (from v k))
@@ -240,62 +240,62 @@ module _ (d : Network) (law : Lawful d) (links_below : uses d Links ≡ false) (
               let there = exit_there (limited_at d r.tail) (n d) r.tail v (forth (flow p k)) (law.each_run k i).tail_in w in
               omega (arith, back_none, there, moved_test (limited_at d) r.tail v (forth (flow p k)))),
           only_sum (limited_at d v) (m d) (from v),
-          ap (only (limited_at d v)) (leaving-is v),
-          sum_none (n d) (λ u. only (limited_at d u) (takes (limit_lead d u) (flow p (limitLeadOf d u)) (n d + v)))
-              (λ u i. limit-lead-takes u (n d + v) i ∙ ap (λ c. only (limited_at d u) (only c (through u))) (ne_eqb u (n d + v) (λ q. omega arith)) ∙ only_zero (limited_at d u)),
+          ap (only (limited_at d v)) (leaving_is v),
+          sum_none (n d) (λ u. only (limited_at d u) (takes (limit_lead d u) (flow p (limit_lead_of d u)) (n d + v)))
+              (λ u i. limit_lead_takes u (n d + v) i ∙ ap (λ c. only (limited_at d u) (only c (through u))) (ne_eqb u (n d + v) (λ q. omega arith)) ∙ only_zero (limited_at d u)),
         )
 
     -- nothing is supplied beyond, nothing delivered before such a lead
-    second-supply : supply p (n d + v) ≡ 0
-    second-supply = ok.racks_supply (n d + v) (second-in d v w) (ap (λ z. is_rack z.mark) (second_point d v w) ∙ beyond_rack (point d v).mark (limited_at d v))
+    second_supply : supply p (n d + v) ≡ 0
+    second_supply = ok.racks_supply (n d + v) (second_in d v w) (ap (λ z. is_rack z.mark) (second_point d v w) ∙ beyond_rack (point d v).mark (limited_at d v))
 
-    limited-balance : limited_at d v ≡ true → (entering d q v + supply q v ≡ through v) × (through v ≡ leaving d q v + delivery q v)
-    limited-balance e =
-        let none = ok.bars_deliver v (first-in d v w) (ap (λ z. is_bar z.mark) (first_point d v w) ∙ entry_bar (point d v).mark (limited_at d v) e) in
-        let out = first-leaving ∙ ap₂ ◌+◌ (ap (λ b. only (not b) (leaving d q v)) e) (ap (λ b. only b (through v)) e) in
-        let in₂ = second-entering ∙ ap (λ b. only b (through v)) e in
-        let out₂ = second-leaving ∙ ap (λ b. only b (leaving d q v)) e in
-        let there = delivery-is v w ∙ ap (λ b. delivery p (cond b (n d + v) v)) e in (
-          omega (arith, supply-is v w, none, out, first-entering, ok.balanced v (first-in d v w)),
-          omega (arith, there, in₂, out₂, second-supply, ok.balanced (n d + v) (second-in d v w)),
+    limited_balance : limited_at d v ≡ true → (entering d q v + supply q v ≡ through v) × (through v ≡ leaving d q v + delivery q v)
+    limited_balance e =
+        let none = ok.bars_deliver v (first_in d v w) (ap (λ z. is_bar z.mark) (first_point d v w) ∙ entry_bar (point d v).mark (limited_at d v) e) in
+        let out = first_leaving ∙ ap₂ ◌+◌ (ap (λ b. only (not b) (leaving d q v)) e) (ap (λ b. only b (through v)) e) in
+        let in₂ = second_entering ∙ ap (λ b. only b (through v)) e in
+        let out₂ = second_leaving ∙ ap (λ b. only b (leaving d q v)) e in
+        let there = delivery_is v w ∙ ap (λ b. delivery p (cond b (n d + v) v)) e in (
+          omega (arith, supply_is v w, none, out, first_entering, ok.balanced v (first_in d v w)),
+          omega (arith, there, in₂, out₂, second_supply, ok.balanced (n d + v) (second_in d v w)),
         )
 
-    unlimited-balance : limited_at d v ≡ false → entering d q v + supply q v ≡ leaving d q v + delivery q v
-    unlimited-balance e =
-        let out = first-leaving ∙ ap₂ ◌+◌ (ap (λ b. only (not b) (leaving d q v)) e) (ap (λ b. only b (through v)) e) in
-        let here = delivery-is v w ∙ ap (λ b. delivery p (cond b (n d + v) v)) e in
-        omega (arith, supply-is v w, out, here, first-entering, ok.balanced v (first-in d v w))
+    unlimited_balance : limited_at d v ≡ false → entering d q v + supply q v ≡ leaving d q v + delivery q v
+    unlimited_balance e =
+        let out = first_leaving ∙ ap₂ ◌+◌ (ap (λ b. only (not b) (leaving d q v)) e) (ap (λ b. only b (through v)) e) in
+        let here = delivery_is v w ∙ ap (λ b. delivery p (cond b (n d + v) v)) e in
+        omega (arith, supply_is v w, out, here, first_entering, ok.balanced v (first_in d v w))
 
     balance : entering d q v + supply q v ≡ leaving d q v + delivery q v
-    balance = ⊎_elim (λ (e : limited_at d v ≡ true). (limited-balance e).0 ∙ (limited-balance e).1) unlimited-balance (cases_Bool (limited_at d v))
+    balance = ⊎_elim (λ (e : limited_at d v ≡ true). (limited_balance e).0 ∙ (limited_balance e).1) unlimited_balance (cases_Bool (limited_at d v))
 
-    delivered-none : is_bar (point d v).mark ≡ false → delivery p (exit d v) ≡ 0
-    delivered-none e =
-        let first = ok.bars_deliver v (first-in d v w) (ap (λ z. is_bar z.mark) (first_point d v w) ∙ entry_no_bar (point d v).mark (limited_at d v) e) in
-        let second = ok.bars_deliver (n d + v) (second-in d v w) (ap (λ z. is_bar z.mark) (second_point d v w) ∙ beyond_bar (point d v).mark (limited_at d v) e) in
+    delivered_none : is_bar (point d v).mark ≡ false → delivery p (exit d v) ≡ 0
+    delivered_none e =
+        let first = ok.bars_deliver v (first_in d v w) (ap (λ z. is_bar z.mark) (first_point d v w) ∙ entry_no_bar (point d v).mark (limited_at d v) e) in
+        let second = ok.bars_deliver (n d + v) (second_in d v w) (ap (λ z. is_bar z.mark) (second_point d v w) ∙ beyond_bar (point d v).mark (limited_at d v) e) in
         ⊎_elim (λ (l : limited_at d v ≡ true). ap (λ b. delivery p (cond b (n d + v) v)) l ∙ second) (λ (l : limited_at d v ≡ false). ap (λ b. delivery p (cond b (n d + v) v)) l ∙ first) (cases_Bool (limited_at d v))
 
-  limits-feasible : Feasible d (limits_plan d p)
-  limits-feasible =
+  limits_feasible : Feasible d (limits_plan d p)
+  limits_feasible =
       record {
         flow_count = length-map-range_with_len (flow p) 1 (m d);
         supply_count = length-map-range_with_len (supply p) 1 (n d);
         delivery_count = length-map-range_with_len (λ u. delivery p (exit d u)) 1 (n d);
-        racks_supply = λ v w e. supply-is v w ∙ ok.racks_supply v (first-in d v w) (ap (λ z. is_rack z.mark) (first_point d v w) ∙ entry_rack (point d v).mark (limited_at d v) e);
-        bars_deliver = λ v w e. delivery-is v w ∙ delivered-none v w e;
-        in_range = λ k w. subst (InRange (run d k).kind (run d k).lower (run d k).upper) (sym (flow-is k w)) (old-range k w);
+        racks_supply = λ v w e. supply_is v w ∙ ok.racks_supply v (first_in d v w) (ap (λ z. is_rack z.mark) (first_point d v w) ∙ entry_rack (point d v).mark (limited_at d v) e);
+        bars_deliver = λ v w e. delivery_is v w ∙ delivered_none v w e;
+        in_range = λ k w. subst (InRange (run d k).kind (run d k).lower (run d k).upper) (sym (flow_is k w)) (old_range k w);
         balanced = balance;
-        limited = λ v w. under_by (point d v).limit _ (λ e. omega (arith, (limited-balance v w e).0, (limit-lead-range v w e).0));
+        limited = λ v w. under_by (point d v).limit _ (λ e. omega (arith, (limited_balance v w e).0, (limit_lead_range v w e).0));
       }
 
-  limits-total : supplied d (limits_plan d p) ≡ supplied (limits_below d) p
-  limits-total =
+  limits_total : supplied d (limits_plan d p) ≡ supplied (limits_below d) p
+  limits_total =
       omega (
         arith,
-        sum_same (n d) (supply q) (supply p) supply-is,
+        sum_same (n d) (supply q) (supply p) supply_is,
         ap (λ z. sum_to z (supply p)) (point_count_lem d),
         sum_append (n d) (n d) (supply p),
-        sum_none (n d) (λ v. supply p (n d + v)) second-supply,
+        sum_none (n d) (λ v. supply p (n d + v)) second_supply,
       )
 
 -- the labels as they are read
@@ -317,32 +317,32 @@ module _ (d : Network) (ls : List Label) (marked : Labelling (limits_below d) ls
       not_so true h = absurd (h refl)
       not_so false h = refl
 
-  first-loose : (v : ℕ) → Within (n d) v → is_tight (label ls v) ≡ false
-  first-loose v w = loose v (first-in d v w) (ap (λ z. is_some z.limit) (first_point d v w))
+  first_loose : (v : ℕ) → Within (n d) v → is_tight (label ls v) ≡ false
+  first_loose v w = loose v (first_in d v w) (ap (λ z. is_some z.limit) (first_point d v w))
 
-  second-loose : (v : ℕ) → Within (n d) v → is_tight (label ls (n d + v)) ≡ false
-  second-loose v w = loose (n d + v) (second-in d v w) (ap (λ z. is_some z.limit) (second_point d v w))
+  second_loose : (v : ℕ) → Within (n d) v → is_tight (label ls (n d + v)) ≡ false
+  second_loose v w = loose (n d + v) (second_in d v w) (ap (λ z. is_some z.limit) (second_point d v w))
 
-  up-labelling : Labelling d up
-  up-labelling =
+  up_labelling : Labelling d up
+  up_labelling =
       record {
         label_count = length-map-range_with_len _ 1 (n d);
-        tight_limited = λ v w e. merged_tight (limited_at d v) (label ls v) (label ls (n d + v)) (first-loose v w) (sym (ap is_tight (label_is v w)) ∙ e);
+        tight_limited = λ v w e. merged_tight (limited_at d v) (label ls v) (label ls (n d + v)) (first_loose v w) (sym (ap is_tight (label_is v w)) ∙ e);
       }
 
-  racks-read : far_rack (limits_below d) ls ≡ false → far_rack d up ≡ false
-  racks-read e = some_none (n d) _ (λ v w.
-      let here = sym (ap (λ z. is_rack z.mark && is_far (label ls v)) (first_point d v w)) ∙ none_to (point_count (limits_below d)) _ e v (first-in d v w) in
-      ap (λ l. is_rack (point d v).mark && is_far l) (label_is v w) ∙ merged_rack (point d v).mark (limited_at d v) (label ls v) (label ls (n d + v)) (first-loose v w) here)
+  racks_read : far_rack (limits_below d) ls ≡ false → far_rack d up ≡ false
+  racks_read e = some_none (n d) _ (λ v w.
+      let here = sym (ap (λ z. is_rack z.mark && is_far (label ls v)) (first_point d v w)) ∙ none_to (point_count (limits_below d)) _ e v (first_in d v w) in
+      ap (λ l. is_rack (point d v).mark && is_far l) (label_is v w) ∙ merged_rack (point d v).mark (limited_at d v) (label ls v) (label ls (n d + v)) (first_loose v w) here)
 
-  bars-read : near_bar (limits_below d) ls ≡ false → near_bar d up ≡ false
-  bars-read e = some_none (n d) _ (λ v w.
-      let here = sym (ap (λ z. is_bar z.mark && is_near (label ls v)) (first_point d v w)) ∙ none_to (point_count (limits_below d)) _ e v (first-in d v w) in
-      let there = sym (ap (λ z. is_bar z.mark && is_near (label ls (n d + v))) (second_point d v w)) ∙ none_to (point_count (limits_below d)) _ e (n d + v) (second-in d v w) in
+  bars_read : near_bar (limits_below d) ls ≡ false → near_bar d up ≡ false
+  bars_read e = some_none (n d) _ (λ v w.
+      let here = sym (ap (λ z. is_bar z.mark && is_near (label ls v)) (first_point d v w)) ∙ none_to (point_count (limits_below d)) _ e v (first_in d v w) in
+      let there = sym (ap (λ z. is_bar z.mark && is_near (label ls (n d + v))) (second_point d v w)) ∙ none_to (point_count (limits_below d)) _ e (n d + v) (second_in d v w) in
       ap (λ l. is_bar (point d v).mark && is_near l) (label_is v w) ∙ merged_bar (point d v).mark (limited_at d v) (label ls v) (label ls (n d + v)) here there)
 
-  throttled-down : throttled (limits_below d) ls ≡ 0
-  throttled-down =
+  throttled_down : throttled (limits_below d) ls ≡ 0
+  throttled_down =
       omega (
         arith,
         ap (λ z. sum_to z f) (point_count_lem d),
@@ -367,15 +367,15 @@ module _ (d : Network) (ls : List Label) (marked : Labelling (limits_below d) ls
     abbrev D' : ℕ → ℕ
     D' k = deducts (run d k).kind (label up (run d k).tail) (label up (run d k).head) (run d k).lower
 
-    crossing-down : crossing (limits_below d) ls ≡ sum_to (m d) A + throttled d up
-    crossing-down =
+    crossing_down : crossing (limits_below d) ls ≡ sum_to (m d) A + throttled d up
+    crossing_down =
         sum_runs d (λ r k. adds r.kind (label ls r.tail) (label ls r.head) r.upper)
         ∙ ap (λ z. sum_to (m d) A + z) (sum_same (n d) _ _ (λ v w.
-        merged_limit (limited_at d v) (label ls v) (label ls (n d + v)) (limit_of (point d v).limit) (first-loose v w) (second-loose v w)
+        merged_limit (limited_at d v) (label ls v) (label ls (n d + v)) (limit_of (point d v).limit) (first_loose v w) (second_loose v w)
         ∙ ap (λ l. only (is_tight l) (limit_of (point d v).limit)) (sym (label_is v w))))
 
-    forced-down : forced (limits_below d) ls ≡ sum_to (m d) D
-    forced-down =
+    forced_down : forced (limits_below d) ls ≡ sum_to (m d) D
+    forced_down =
         sum_runs d (λ r k. deducts r.kind (label ls r.tail) (label ls r.head) r.lower)
         ∙ omega (
           arith,
@@ -383,8 +383,8 @@ module _ (d : Network) (ls : List Label) (marked : Labelling (limits_below d) ls
               (λ v w. ap (only (limited_at d v)) (only_zero _) ∙ only_zero (limited_at d v)),
         )
 
-    read-run : (k : ℕ) → Within (m d) k → A' k + D k ≤ A k + D' k
-    read-run k w =
+    read_run : (k : ℕ) → Within (m d) k → A' k + D k ≤ A k + D' k
+    read_run k w =
         let r = run d k in
         let h = law.each_run k w in
         let t = r.tail in
@@ -392,29 +392,29 @@ module _ (d : Network) (ls : List Label) (marked : Labelling (limits_below d) ls
         ≤ adds r.kind c (label ls r.head) r.upper + deducts r.kind a b r.lower in
         subst₃ P (sym (label_is t h.tail_in)) (sym (label_is r.head h.head_in)) (sym (push (label ls) (limited_at d t) (n d + t) t))
         (merged_run r.kind (limited_at d t) (limited_at d r.head) (label ls t) (label ls (n d + t)) (label ls r.head) (label ls (n d + r.head)) r.lower r.upper
-        (none_to (m d) _ links_below k w) (first-loose t h.tail_in) (second-loose t h.tail_in) (first-loose r.head h.head_in) (second-loose r.head h.head_in))
+        (none_to (m d) _ links_below k w) (first_loose t h.tail_in) (second_loose t h.tail_in) (first_loose r.head h.head_in) (second_loose r.head h.head_in))
 
     read_worth : worth d up ≤ℤ worth (limits_below d) ls
     read_worth =
-        omega (arith, ints, sum_below (m d) (λ k. A' k + D k) (λ k. A k + D' k) read-run, sum_plus (m d) A' D, sum_plus (m d) A D', crossing-down, forced-down, throttled-down)
+        omega (arith, ints, sum_below (m d) (λ k. A' k + D k) (λ k. A k + D' k) read_run, sum_plus (m d) A' D, sum_plus (m d) A D', crossing_down, forced_down, throttled_down)
 
 pub limits_right : (d : Network) → Lawful d → uses d Links ≡ false → (a : Answer) → Right (limits_below d) a → Right d (limits_above d a)
 limits_right d law u (Planned p t ls) (ok, sum, cut, equal) =
-    let sound = limits-feasible d law u p ok in
+    let sound = limits_feasible d law u p ok in
     let cut' : Cut d (limits_labels d ls) = record {
-      labelled = up-labelling d ls cut.labelled;
-      no_far_rack = racks-read d ls cut.labelled cut.no_far_rack;
-      no_near_bar = bars-read d ls cut.labelled cut.no_near_bar;
+      labelled = up_labelling d ls cut.labelled;
+      no_far_rack = racks_read d ls cut.labelled cut.no_far_rack;
+      no_near_bar = bars_read d ls cut.labelled cut.no_near_bar;
     } in
-    let sum' : t ≡ total (limits_plan d p) = omega (arith, sum, limits-total d law u p ok, total_is (limits_below d) p ok, total_is d (limits_plan d p) sound) in
+    let sum' : t ≡ total (limits_plan d p) = omega (arith, sum, limits_total d law u p ok, total_is (limits_below d) p ok, total_is d (limits_plan d p) sound) in
     (sound, sum', cut', omega (arith, ints, equal, sum', read_worth d ls cut.labelled law u, weak_duality d law (limits_plan d p) sound (limits_labels d ls) cut'))
 limits_right d law u (Short ls) short =
     record {
-      labelled = up-labelling d ls short.labelled;
+      labelled = up_labelling d ls short.labelled;
       negative = omega (arith, ints, short.negative, read_worth d ls short.labelled law u);
       not_both = ⊎_elim
-          (λ (e : far_rack (limits_below d) ls ≡ false). and_left _ _ (racks-read d ls short.labelled e))
-          (λ (e : near_bar (limits_below d) ls ≡ false). and_right _ _ (bars-read d ls short.labelled e))
+          (λ (e : far_rack (limits_below d) ls ≡ false). and_left _ _ (racks_read d ls short.labelled e))
+          (λ (e : near_bar (limits_below d) ls ≡ false). and_right _ _ (bars_read d ls short.labelled e))
           (and_cases _ _ short.not_both);
     }
 
@@ -424,8 +424,8 @@ module _ (d : Network) (i n : ℕ) (same : n ≡ point_count d) where
   second_at = omega arith
 
   module _ (l : ℕ) (e : (point d (suc i)).limit ≡ Some l) where
-    has-limit : limited_at d (suc i) ≡ true
-    has-limit = ap is_some e
+    has_limit : limited_at d (suc i) ≡ true
+    has_limit = ap is_some e
 
     pub limit_lead_lem : ◌≡◌ {A = Run} (record { kind = Lead; tail = i + 1; head = n + (i + 1); lower = 0; upper = l }) (limit_lead d (suc i))
     limit_lead_lem =
@@ -434,10 +434,10 @@ module _ (d : Network) (i n : ℕ) (same : n ≡ point_count d) where
         ∙ ap (λ o. let r : Run = record { kind = Lead; tail = suc i; head = point_count d + suc i; lower = 0; upper = limit_of o } in r) (sym e)
 
     pub limited_label : (ls : List Label) → merged (get_or ls i Near) (get_or ls (n + i) Near) ≡ limits_label d ls (suc i)
-    limited_label ls = ap (λ k. merged (label ls (suc i)) (label ls k)) (sym second_at) ∙ sym (cond-true (limited_at d (suc i)) _ _ has-limit)
+    limited_label ls = ap (λ k. merged (label ls (suc i)) (label ls k)) (sym second_at) ∙ sym (cond-true (limited_at d (suc i)) _ _ has_limit)
 
     pub limited_delivery : (p : Plan) → get_or p.deliveries (n + i) 0 ≡ delivery p (exit d (suc i))
-    limited_delivery p = ap (delivery p) (sym second_at ∙ sym (cond-true (limited_at d (suc i)) _ _ has-limit))
+    limited_delivery p = ap (delivery p) (sym second_at ∙ sym (cond-true (limited_at d (suc i)) _ _ has_limit))
 
   module _ (e : (point d (suc i)).limit ≡ None) where
     no_limit : limited_at d (suc i) ≡ false

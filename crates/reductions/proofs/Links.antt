@@ -1,5 +1,5 @@
 -- The links layer: the network below is lawful, and a right answer to it is read as a right answer.
-use Rattle.std.proofs.Common.{◌≡◌, ℕ, suc, ◌+◌, ◌-◌, ◌<◌, ◌≤◌, Bool, true, false, cond, eqb, ◌≢◌, List, map, length, get_or, ℤ, pos, negsuc, ◌-ℤ◌, nat_abs, ◌≤ℤ◌, ◌<ℤ◌, Some, None, Option, sym, refl, ap, ◌∙◌, subst, ap₂, zero-le, arith}
+use Rattle.std.proofs.Common.{◌≡◌, ℕ, suc, ◌+◌, ◌<◌, ◌≤◌, Bool, true, false, cond, eqb, List, map, length, get_or, ℤ, pos, negsuc, ◌-ℤ◌, nat_abs, ◌≤ℤ◌, ◌<ℤ◌, Some, None, Option, sym, refl, ap, ◌∙◌, subst, ap₂, zero-le, arith}
 use mathlib.Core.Bool.{false≢true}
 use Rattle.std.proofs.lemmas.Int.{ints}
 use Rattle.std.proofs.lemmas.List.{length-map}
@@ -39,8 +39,8 @@ module _ (d : Network) where
   pub lead_is : (k : ℕ) → Within (run_count d) k → nth leads k no_run ≡ as_lead (run d k)
   lead_is k w = nth_map as_lead d.runs k no_run no_run w
 
-  front-is : (k : ℕ) → Within (run_count d) k → run (links_below d) k ≡ as_lead (run d k)
-  front-is k w = at_front leads (run_count d) links backs k (omega (arith, same_count)) ∙ lead_is k w
+  front_is : (k : ℕ) → Within (run_count d) k → run (links_below d) k ≡ as_lead (run d k)
+  front_is k w = at_front leads (run_count d) links backs k (omega (arith, same_count)) ∙ lead_is k w
 
   front_within : (k : ℕ) → Within (run_count d) k → Within (run_count (links_below d)) k
   front_within k w = front_in leads (run_count d) links backs k (omega (arith, same_count))
@@ -48,8 +48,8 @@ module _ (d : Network) where
   back_is : (k : ℕ) → Within (run_count d) k → links k ≡ true → run (links_below d) (back_of d k) ≡ lead_back (run d k)
   back_is k w e = ap (run (links_below d)) (sym (same_place k)) ∙ at_place leads (run_count d) links backs k w e
 
-  back-within : (k : ℕ) → Within (run_count d) k → links k ≡ true → Within (run_count (links_below d)) (back_of d k)
-  back-within k w e = subst (Within (run_count (links_below d))) (same_place k) (place_in leads (run_count d) links backs k w e)
+  back_within : (k : ℕ) → Within (run_count d) k → links k ≡ true → Within (run_count (links_below d)) (back_of d k)
+  back_within k w e = subst (Within (run_count (links_below d))) (same_place k) (place_in leads (run_count d) links backs k w e)
 
   -- a sum over the runs below, by the runs of the drawing
   pub sum_down : (g : Run → ℕ → ℕ) → sum_to (run_count (links_below d)) (λ k. g (run (links_below d) k) k)
@@ -67,14 +67,14 @@ links_lawful d law =
       some_point = law.some_point;
       each_run = each_all (leads d) (run_count d) (links d) (backs d) (λ r k. LawfulRun (point_count d) r)
           (λ k w. let u : Within (run_count d) k = omega (arith, same_count d) in subst (LawfulRun (point_count d)) (sym (lead_is d k u)) (lead_lawful (law.each_run k u)))
-          (λ k w e. back-lawful (law.each_run k w));
+          (λ k w e. back_lawful (law.each_run k w));
     }
   where
     lead_lawful : {r : Run} → LawfulRun (point_count d) r → LawfulRun (point_count d) (as_lead r)
     lead_lawful h = record { tail_in = h.tail_in; head_in = h.head_in; apart = h.apart; ordered = h.ordered; link_lower = λ e. absurd (false≢true e) }
 
-    back-lawful : {r : Run} → LawfulRun (point_count d) r → LawfulRun (point_count d) (lead_back r)
-    back-lawful h = record { tail_in = h.head_in; head_in = h.tail_in; apart = λ q. h.apart (sym q); ordered = zero-le; link_lower = λ e. absurd (false≢true e) }
+    back_lawful : {r : Run} → LawfulRun (point_count d) r → LawfulRun (point_count d) (lead_back r)
+    back_lawful h = record { tail_in = h.head_in; head_in = h.tail_in; apart = λ q. h.apart (sym q); ordered = zero-le; link_lower = λ e. absurd (false≢true e) }
 
 -- a labelling is one of both, and worth the same in both
 labels_up : (d : Network) (ls : List Label) → Labelling (links_below d) ls → Labelling d ls
@@ -87,15 +87,15 @@ deducts_same : (k : Kind) (a b : Label) (lo : ℕ) → (is_link k ≡ true → l
 deducts_same k a b lo h = grind arith
 
 pub links_worth : (d : Network) → Lawful d → (ls : List Label) → worth (links_below d) ls ≡ worth d ls
-links_worth d law ls = ap₂ (λ x y. pos (x + throttled d ls) -ℤ pos y) crossing-same forced-same
+links_worth d law ls = ap₂ (λ x y. pos (x + throttled d ls) -ℤ pos y) crossing_same forced_same
   where
-    crossing-same : crossing (links_below d) ls ≡ crossing d ls
-    crossing-same =
+    crossing_same : crossing (links_below d) ls ≡ crossing d ls
+    crossing_same =
         sum_down d (λ r k. adds r.kind (label ls r.tail) (label ls r.head) r.upper)
         ∙ sum_same (run_count d) _ _ (λ k w. adds_same (run d k).kind (label ls (run d k).tail) (label ls (run d k).head) (run d k).upper)
 
-    forced-same : forced (links_below d) ls ≡ forced d ls
-    forced-same =
+    forced_same : forced (links_below d) ls ≡ forced d ls
+    forced_same =
         sum_down d (λ r k. deducts r.kind (label ls r.tail) (label ls r.head) r.lower)
         ∙ sum_same (run_count d) _ _ (λ k w. deducts_same (run d k).kind (label ls (run d k).tail) (label ls (run d k).head) (run d k).lower (law.each_run k w).link_lower)
 
@@ -156,51 +156,51 @@ range Link lo up f g hf hg = size lo up f g hf (hg refl)
 
 module _ (d : Network) (p : Plan) (ok : Feasible (links_below d) p) where
   first_range : (k : ℕ) → Within (run_count d) k → InRange Lead (run d k).lower (run d k).upper (flow p k)
-  first_range k w = subst (λ r. InRange r.kind r.lower r.upper (flow p k)) (front-is d k w) (ok.in_range k (front_within d k w))
+  first_range k w = subst (λ r. InRange r.kind r.lower r.upper (flow p k)) (front_is d k w) (ok.in_range k (front_within d k w))
 
   second_range : (k : ℕ) → Within (run_count d) k → link_at d k ≡ true → InRange Lead 0 (run d k).upper (flow p (back_of d k))
-  second_range k w e = subst (λ r. InRange r.kind r.lower r.upper (flow p (back_of d k))) (back_is d k w e) (ok.in_range (back_of d k) (back-within d k w e))
+  second_range k w e = subst (λ r. InRange r.kind r.lower r.upper (flow p (back_of d k))) (back_is d k w e) (ok.in_range (back_of d k) (back_within d k w e))
 
-  flow-is : (k : ℕ) → Within (run_count d) k → flow (links_plan d p) k ≡ links_flow d p k
-  flow-is k w = nth_made (links_flow d p) (run_count d) k (pos 0) w
+  flow_is : (k : ℕ) → Within (run_count d) k → flow (links_plan d p) k ≡ links_flow d p k
+  flow_is k w = nth_made (links_flow d p) (run_count d) k (pos 0) w
 
   at_run : (k : ℕ) → Within (run_count d) k → (v : ℕ) → Joined (run d k) (flow p k) (flow p (back_of d k)) v
   at_run k w v =
       joined (run d k) (flow p k) (flow p (back_of d k)) v (lead_flow _ _ _ (first_range k w)).2 (λ e. (lead_flow _ _ _ (second_range k w e)).2)
 
   module _ (v : ℕ) where
-    abbrev drawn-in : ℕ → ℕ
-    drawn-in k = brings (run d k) (links_flow d p k) v
+    abbrev drawn_in : ℕ → ℕ
+    drawn_in k = brings (run d k) (links_flow d p k) v
 
-    abbrev drawn-out : ℕ → ℕ
-    drawn-out k = takes (run d k) (links_flow d p k) v
+    abbrev drawn_out : ℕ → ℕ
+    drawn_out k = takes (run d k) (links_flow d p k) v
 
-    abbrev down-in : ℕ → ℕ
-    down-in k = brought (run d k) (flow p k) (flow p (back_of d k)) v
+    abbrev down_in : ℕ → ℕ
+    down_in k = brought (run d k) (flow p k) (flow p (back_of d k)) v
 
     abbrev down_out : ℕ → ℕ
     down_out k = taken (run d k) (flow p k) (flow p (back_of d k)) v
 
-    entering-is : entering d (links_plan d p) v ≡ sum_to (run_count d) drawn-in
-    entering-is = sum_same (run_count d) _ drawn-in (λ k w. ap (λ f. brings (run d k) f v) (flow-is k w))
+    entering_is : entering d (links_plan d p) v ≡ sum_to (run_count d) drawn_in
+    entering_is = sum_same (run_count d) _ drawn_in (λ k w. ap (λ f. brings (run d k) f v) (flow_is k w))
 
-    leaving-is : leaving d (links_plan d p) v ≡ sum_to (run_count d) drawn-out
-    leaving-is = sum_same (run_count d) _ drawn-out (λ k w. ap (λ f. takes (run d k) f v) (flow-is k w))
+    leaving_is : leaving d (links_plan d p) v ≡ sum_to (run_count d) drawn_out
+    leaving_is = sum_same (run_count d) _ drawn_out (λ k w. ap (λ f. takes (run d k) f v) (flow_is k w))
 
-    entering-down : entering (links_below d) p v ≡ sum_to (run_count d) down-in
-    entering-down = sum_down d (λ r k. brings r (flow p k) v)
+    entering_down : entering (links_below d) p v ≡ sum_to (run_count d) down_in
+    entering_down = sum_down d (λ r k. brings r (flow p k) v)
 
-    leaving-down : leaving (links_below d) p v ≡ sum_to (run_count d) down_out
-    leaving-down = sum_down d (λ r k. takes r (flow p k) v)
+    leaving_down : leaving (links_below d) p v ≡ sum_to (run_count d) down_out
+    leaving_down = sum_down d (λ r k. takes r (flow p k) v)
 
     no_more : entering d (links_plan d p) v ≤ entering (links_below d) p v
-    no_more = omega (arith, entering-is, entering-down, sum_below (run_count d) drawn-in down-in (λ k w. (at_run k w v).0))
+    no_more = omega (arith, entering_is, entering_down, sum_below (run_count d) drawn_in down_in (λ k w. (at_run k w v).0))
 
-    on-balance : entering d (links_plan d p) v + leaving (links_below d) p v ≡ leaving d (links_plan d p) v + entering (links_below d) p v
-    on-balance =
+    on_balance : entering d (links_plan d p) v + leaving (links_below d) p v ≡ leaving d (links_plan d p) v + entering (links_below d) p v
+    on_balance =
         let m = run_count d in
-        let each = sum_same m (λ k. drawn-in k + down_out k) (λ k. drawn-out k + down-in k) (λ k w. (at_run k w v).1) in
-        omega (arith, each, entering-is, entering-down, leaving-is, leaving-down, sum_plus m drawn-in down_out, sum_plus m drawn-out down-in)
+        let each = sum_same m (λ k. drawn_in k + down_out k) (λ k. drawn_out k + down_in k) (λ k w. (at_run k w v).1) in
+        omega (arith, each, entering_is, entering_down, leaving_is, leaving_down, sum_plus m drawn_in down_out, sum_plus m drawn_out down_in)
 
 under_less : (o : Option ℕ) (x y : ℕ) → x ≤ y → Under o y → Under o x
 under_less None x y l h = tt
@@ -215,9 +215,9 @@ links_feasible d p ok =
       delivery_count = ok.delivery_count;
       racks_supply = ok.racks_supply;
       bars_deliver = ok.bars_deliver;
-      in_range = λ k w. subst (λ f. InRange (run d k).kind (run d k).lower (run d k).upper f) (sym (flow-is d p ok k w))
+      in_range = λ k w. subst (λ f. InRange (run d k).kind (run d k).lower (run d k).upper f) (sym (flow_is d p ok k w))
           (range (run d k).kind _ _ (flow p k) (flow p (back_of d k)) (first_range d p ok k w) (second_range d p ok k w));
-      balanced = λ v w. omega (arith, ok.balanced v w, on-balance d p ok v);
+      balanced = λ v w. omega (arith, ok.balanced v w, on_balance d p ok v);
       limited = λ v w. under_less (point d v).limit _ _ (omega (arith, no_more d p ok v)) (ok.limited v w);
     }
 
@@ -248,7 +248,7 @@ module _ (d : Network) (p : Plan) (ok : Feasible (links_below d) p) (i : ℕ) (l
     pub read_back : (back < length p.flows) × (pos 0 ≤ℤ get_or p.flows back (pos 0))
     read_back =
         let w : Within (run_count d) (suc i) = omega arith in (
-          omega (arith, ok.flow_count, back-within d (suc i) w e, back_at),
+          omega (arith, ok.flow_count, back_within d (suc i) w e, back_at),
           subst (λ k. pos 0 ≤ℤ flow p k) back_at (second_range d p ok (suc i) w e).0,
         )
 

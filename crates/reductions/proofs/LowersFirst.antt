@@ -1,5 +1,5 @@
 -- The first network of the lower-bounds layer: its runs and sums over them, and the shortage it tells.
-use Rattle.std.proofs.Common.{◌≡◌, ℕ, zero, suc, ◌+◌, ◌-◌, ◌<◌, ◌≤◌, Bool, true, false, cond, ◌&&◌, ◌≢◌, ◌⊎◌, List, [], ◌∷◌, ◌++◌, map, length, ℤ, pos, ◌<ℤ◌, is_some, Some, None, Option, sym, refl, ap, ◌∙◌, subst, ap₂, subst₂, ⊎_elim, true≢false, zero-le, arith, length-append}
+use Rattle.std.proofs.Common.{◌≡◌, ℕ, zero, suc, ◌+◌, ◌-◌, ◌<◌, ◌≤◌, Bool, true, false, cond, ◌&&◌, List, [], ◌∷◌, ◌++◌, map, length, pos, ◌<ℤ◌, is_some, Some, None, Option, sym, refl, ap, ◌∙◌, subst, ap₂, subst₂, ⊎_elim, true≢false, zero-le, arith, length-append}
 use mathlib.Core.Bool.{false≢true}
 use Rattle.std.proofs.lemmas.Int.{ints}
 use Rattle.std.proofs.lemmas.List.{length-map}
@@ -27,36 +27,36 @@ use Rattle.duality.proofs.Duality.{none_to}
 
 -- two runs for each of 1 .. n
 module _ (a b : ℕ → Run) where
-  pairs-count : (n : ℕ) → length (pairs n a b) ≡ n + n
-  pairs-count zero = refl
-  pairs-count (suc n) = length-append (pairs n a b) (a (suc n) ∷ b (suc n) ∷ []) ∙ omega (arith, pairs-count n)
+  pairs_count : (n : ℕ) → length (pairs n a b) ≡ n + n
+  pairs_count zero = refl
+  pairs_count (suc n) = length-append (pairs n a b) (a (suc n) ∷ b (suc n) ∷ []) ∙ omega (arith, pairs_count n)
 
-  pair-first : (n v : ℕ) → Within n v → nth (pairs n a b) (v + v - 1) no_run ≡ a v
-  pair-first zero v w = let no_such : ⊥ = omega arith in absurd no_such
-  pair-first (suc n) v w = ⊎_elim
+  pair_first : (n v : ℕ) → Within n v → nth (pairs n a b) (v + v - 1) no_run ≡ a v
+  pair_first zero v w = let no_such : ⊥ = omega arith in absurd no_such
+  pair_first (suc n) v w = ⊎_elim
       (λ (q : v ≡ suc n).
-      let at : v + v - 1 ≡ length (pairs n a b) + 1 = omega (arith, pairs-count n) in
+      let at : v + v - 1 ≡ length (pairs n a b) + 1 = omega (arith, pairs_count n) in
       ap (λ z. nth (pairs (suc n) a b) z no_run) at ∙ nth_rest (pairs n a b) (a (suc n) ∷ b (suc n) ∷ []) 1 no_run (omega arith) ∙ ap a (sym q))
-      (λ (q : v ≡ suc n → ⊥). nth_front (pairs n a b) _ (v + v - 1) no_run (omega (arith, pairs-count n)) ∙ pair-first n v (omega arith))
+      (λ (q : v ≡ suc n → ⊥). nth_front (pairs n a b) _ (v + v - 1) no_run (omega (arith, pairs_count n)) ∙ pair_first n v (omega arith))
       (cases_eq v (suc n))
 
-  pair-second : (n v : ℕ) → Within n v → nth (pairs n a b) (v + v) no_run ≡ b v
-  pair-second zero v w = let no_such : ⊥ = omega arith in absurd no_such
-  pair-second (suc n) v w = ⊎_elim
+  pair_second : (n v : ℕ) → Within n v → nth (pairs n a b) (v + v) no_run ≡ b v
+  pair_second zero v w = let no_such : ⊥ = omega arith in absurd no_such
+  pair_second (suc n) v w = ⊎_elim
       (λ (q : v ≡ suc n).
-      let at : v + v ≡ length (pairs n a b) + 2 = omega (arith, pairs-count n) in
+      let at : v + v ≡ length (pairs n a b) + 2 = omega (arith, pairs_count n) in
       ap (λ z. nth (pairs (suc n) a b) z no_run) at ∙ nth_rest (pairs n a b) (a (suc n) ∷ b (suc n) ∷ []) 2 no_run (omega arith) ∙ ap b (sym q))
-      (λ (q : v ≡ suc n → ⊥). nth_front (pairs n a b) _ (v + v) no_run (omega (arith, pairs-count n)) ∙ pair-second n v (omega arith))
+      (λ (q : v ≡ suc n → ⊥). nth_front (pairs n a b) _ (v + v) no_run (omega (arith, pairs_count n)) ∙ pair_second n v (omega arith))
       (cases_eq v (suc n))
 
   -- what holds of both runs of each
-  each-pair : (P : Run → Type 0) (n : ℕ) → ((v : ℕ) → Within n v → P (a v) × P (b v)) → (j : ℕ) → Within (n + n) j → P (nth (pairs n a b) j no_run)
-  each-pair P zero h j w = let no_such : ⊥ = omega arith in absurd no_such
-  each-pair P (suc n) h j w = ⊎_elim
-      (λ (q : j ≡ n + n + 2). subst P (sym (ap (λ z. nth (pairs (suc n) a b) z no_run) (let t : j ≡ suc n + suc n = omega arith in t) ∙ pair-second (suc n) (suc n) (last n))) (h (suc n) (last n)).1)
+  each_pair : (P : Run → Type 0) (n : ℕ) → ((v : ℕ) → Within n v → P (a v) × P (b v)) → (j : ℕ) → Within (n + n) j → P (nth (pairs n a b) j no_run)
+  each_pair P zero h j w = let no_such : ⊥ = omega arith in absurd no_such
+  each_pair P (suc n) h j w = ⊎_elim
+      (λ (q : j ≡ n + n + 2). subst P (sym (ap (λ z. nth (pairs (suc n) a b) z no_run) (let t : j ≡ suc n + suc n = omega arith in t) ∙ pair_second (suc n) (suc n) (last n))) (h (suc n) (last n)).1)
       (λ (q : j ≡ n + n + 2 → ⊥). ⊎_elim
-      (λ (z : j ≡ n + n + 1). subst P (sym (ap (λ z. nth (pairs (suc n) a b) z no_run) (let t : j ≡ suc n + suc n - 1 = omega arith in t) ∙ pair-first (suc n) (suc n) (last n))) (h (suc n) (last n)).0)
-      (λ (z : j ≡ n + n + 1 → ⊥). subst P (sym (nth_front (pairs n a b) _ j no_run (omega (arith, pairs-count n)))) (each-pair P n (λ v i. h v (earlier i)) j (omega arith)))
+      (λ (z : j ≡ n + n + 1). subst P (sym (ap (λ z. nth (pairs (suc n) a b) z no_run) (let t : j ≡ suc n + suc n - 1 = omega arith in t) ∙ pair_first (suc n) (suc n) (last n))) (h (suc n) (last n)).0)
+      (λ (z : j ≡ n + n + 1 → ⊥). subst P (sym (nth_front (pairs n a b) _ j no_run (omega (arith, pairs_count n)))) (each_pair P n (λ v i. h v (earlier i)) j (omega arith)))
       (cases_eq j (n + n + 1)))
       (cases_eq j (n + n + 2))
 
@@ -79,45 +79,45 @@ module _ (d : Network) where
   abbrev extra : List Run
   extra = both ++ (return_lead d ∷ [])
 
-  slack-count : length slacks ≡ m
-  slack-count = length-map d.runs slack
+  slack_count : length slacks ≡ m
+  slack_count = length-map d.runs slack
 
-  both-count : length both ≡ n + n
-  both-count = pairs-count (supply_lead d) (demand_lead d) n
+  both_count : length both ≡ n + n
+  both_count = pairs_count (supply_lead d) (demand_lead d) n
 
-  extra-count : length extra ≡ n + n + 1
-  extra-count = length-append both (return_lead d ∷ []) ∙ ap (λ z. z + 1) both-count
+  extra_count : length extra ≡ n + n + 1
+  extra_count = length-append both (return_lead d ∷ []) ∙ ap (λ z. z + 1) both_count
 
   pub run_count_lem : run_count d₁ ≡ m + (n + n + 1)
-  run_count_lem = length-append slacks extra ∙ ap₂ ◌+◌ slack-count extra-count
+  run_count_lem = length-append slacks extra ∙ ap₂ ◌+◌ slack_count extra_count
 
   -- where each stands
   abbrev pub src_of : ℕ → ℕ
   src_of v = m + (v + v - 1)
 
-  abbrev pub snkOf : ℕ → ℕ
-  snkOf v = m + (v + v)
+  abbrev pub snk_of : ℕ → ℕ
+  snk_of v = m + (v + v)
 
   abbrev pub last_of : ℕ
   last_of = m + (n + n + 1)
 
   pub slack_at : (k : ℕ) → Within m k → run d₁ k ≡ slack (run d k)
-  slack_at k w = nth_front slacks extra k no_run (omega (arith, slack-count)) ∙ nth_map slack d.runs k no_run no_run w
+  slack_at k w = nth_front slacks extra k no_run (omega (arith, slack_count)) ∙ nth_map slack d.runs k no_run no_run w
 
-  extra-at : (j : ℕ) → 1 ≤ j → run d₁ (m + j) ≡ nth extra j no_run
-  extra-at j h = ap (λ z. run d₁ (z + j)) (sym slack-count) ∙ nth_rest slacks extra j no_run h
+  extra_at : (j : ℕ) → 1 ≤ j → run d₁ (m + j) ≡ nth extra j no_run
+  extra_at j h = ap (λ z. run d₁ (z + j)) (sym slack_count) ∙ nth_rest slacks extra j no_run h
 
   pub src_at : (v : ℕ) → Within n v → run d₁ (src_of v) ≡ supply_lead d v
-  src_at v w = extra-at (v + v - 1) (omega arith) ∙ nth_front both (return_lead d ∷ []) (v + v - 1) no_run (omega (arith, both-count)) ∙ pair-first (supply_lead d) (demand_lead d) n v w
+  src_at v w = extra_at (v + v - 1) (omega arith) ∙ nth_front both (return_lead d ∷ []) (v + v - 1) no_run (omega (arith, both_count)) ∙ pair_first (supply_lead d) (demand_lead d) n v w
 
-  pub snk_at : (v : ℕ) → Within n v → run d₁ (snkOf v) ≡ demand_lead d v
-  snk_at v w = extra-at (v + v) (omega arith) ∙ nth_front both (return_lead d ∷ []) (v + v) no_run (omega (arith, both-count)) ∙ pair-second (supply_lead d) (demand_lead d) n v w
+  pub snk_at : (v : ℕ) → Within n v → run d₁ (snk_of v) ≡ demand_lead d v
+  snk_at v w = extra_at (v + v) (omega arith) ∙ nth_front both (return_lead d ∷ []) (v + v) no_run (omega (arith, both_count)) ∙ pair_second (supply_lead d) (demand_lead d) n v w
 
   pub last_at : run d₁ last_of ≡ return_lead d
-  last_at = extra-at (n + n + 1) (omega arith) ∙ ap (λ z. nth extra (z + 1) no_run) (sym both-count) ∙ nth_rest both (return_lead d ∷ []) 1 no_run (omega arith)
+  last_at = extra_at (n + n + 1) (omega arith) ∙ ap (λ z. nth extra (z + 1) no_run) (sym both_count) ∙ nth_rest both (return_lead d ∷ []) 1 no_run (omega arith)
 
   pub sum_runs : (g : Run → ℕ → ℕ) → sum_to (run_count d₁) (λ k. g (run d₁ k) k)
-      ≡ sum_to m (λ k. g (slack (run d k)) k) + (sum_to n (λ v. g (supply_lead d v) (src_of v)) + sum_to n (λ v. g (demand_lead d v) (snkOf v)) + g (return_lead d) last_of)
+      ≡ sum_to m (λ k. g (slack (run d k)) k) + (sum_to n (λ v. g (supply_lead d v) (src_of v)) + sum_to n (λ v. g (demand_lead d v) (snk_of v)) + g (return_lead d) last_of)
   sum_runs g =
       let f : ℕ → ℕ = λ k. g (run d₁ k) k in
       let f' : ℕ → ℕ = λ j. f (m + j) in
@@ -131,7 +131,7 @@ module _ (d : Network) where
         sum_same m f (λ k. g (slack (run d k)) k) (λ k w. ap (λ r. g r k) (slack_at k w)),
         sum_plus n (λ v. f' (v + v - 1)) (λ v. f' (v + v)),
         sum_same n (λ v. f' (v + v - 1)) (λ v. g (supply_lead d v) (src_of v)) (λ v w. ap (λ r. g r (src_of v)) (src_at v w)),
-        sum_same n (λ v. f' (v + v)) (λ v. g (demand_lead d v) (snkOf v)) (λ v w. ap (λ r. g r (snkOf v)) (snk_at v w)),
+        sum_same n (λ v. f' (v + v)) (λ v. g (demand_lead d v) (snk_of v)) (λ v w. ap (λ r. g r (snk_of v)) (snk_at v w)),
         ap (λ r. g r last_of) last_at,
       )
 
@@ -141,9 +141,9 @@ module _ (d : Network) where
   each_run₁ P h₁ h₂ h₃ k w = ⊎_elim
       (λ (q : m < k).
       let at : m + (k - m) ≡ k = omega arith in
-      subst (λ z. P (run d₁ z)) at (subst P (sym (extra-at (k - m) (omega arith))) (⊎_elim
-      (λ (z : n + n < k - m). subst P (sym (ap (λ i. nth extra i no_run) (let t : k - m ≡ length both + 1 = omega (arith, both-count, run_count_lem) in t) ∙ nth_rest both (return_lead d ∷ []) 1 no_run (omega arith))) h₃)
-      (λ (z : k - m ≤ n + n). subst P (sym (nth_front both (return_lead d ∷ []) (k - m) no_run (omega (arith, both-count)))) (each-pair (supply_lead d) (demand_lead d) P n h₂ (k - m) (omega arith)))
+      subst (λ z. P (run d₁ z)) at (subst P (sym (extra_at (k - m) (omega arith))) (⊎_elim
+      (λ (z : n + n < k - m). subst P (sym (ap (λ i. nth extra i no_run) (let t : k - m ≡ length both + 1 = omega (arith, both_count, run_count_lem) in t) ∙ nth_rest both (return_lead d ∷ []) 1 no_run (omega arith))) h₃)
+      (λ (z : k - m ≤ n + n). subst P (sym (nth_front both (return_lead d ∷ []) (k - m) no_run (omega (arith, both_count)))) (each_pair (supply_lead d) (demand_lead d) P n h₂ (k - m) (omega arith)))
       (cases_lt (n + n) (k - m)))))
       (λ (q : k ≤ m). subst P (sym (slack_at k (omega arith))) (h₁ k (omega arith)))
       (cases_lt m k)
@@ -231,39 +231,39 @@ module _ (d : Network) (law : Lawful d) (no_links : uses d Links ≡ false) (no_
       not_so true h = absurd (h refl)
       not_so false h = refl
 
-  is-rack : (v : ℕ) → Within (point_count d) v → is_rack (point d v).mark ≡ true → v ≡ old_rack d
-  is-rack v w e = eqb-true _ _ (sym ((the_one_rack d plain-ends).alone v w) ∙ e)
+  is_rack_lem : (v : ℕ) → Within (point_count d) v → is_rack (point d v).mark ≡ true → v ≡ old_rack d
+  is_rack_lem v w e = eqb-true _ _ (sym ((the_one_rack d plain-ends).alone v w) ∙ e)
 
-  is-bar : (v : ℕ) → Within (point_count d) v → is_bar (point d v).mark ≡ true → v ≡ old_bar d
-  is-bar v w e = eqb-true _ _ (sym ((the_one_bar d plain-ends).alone v w) ∙ e)
+  is_bar_lem : (v : ℕ) → Within (point_count d) v → is_bar (point d v).mark ≡ true → v ≡ old_bar d
+  is_bar_lem v w e = eqb-true _ _ (sym ((the_one_bar d plain-ends).alone v w) ∙ e)
 
-  rack-far : (v : ℕ) → Within (point_count d) v → x v ≡ true → is_far (label ls v) ≡ true
-  rack-far v w e =
+  rack_far_lem : (v : ℕ) → Within (point_count d) v → x v ≡ true → is_far (label ls v) ≡ true
+  rack_far_lem v w e =
       let (r, fn) = and_parts _ _ e in
       let (f, _) = and_parts _ _ fn in
       let same : v ≡ old_rack d = eqb-true _ _ (sym ((the_one_rack d plain-ends).alone v w) ∙ r) in
       ap (λ z. is_far (label ls z)) same ∙ f
 
   label_is : (v : ℕ) → Within (point_count d) v → label up v ≡ reading (label ls v) (x v) false
-  label_is v w = nth_made (λ u. cond (x u) Near (label ls u)) (point_count d) v _ w ∙ short_label_lem (label ls v) (x v) (rack-far v w)
+  label_is v w = nth_made (λ u. cond (x u) Near (label ls u)) (point_count d) v _ w ∙ short_label_lem (label ls v) (x v) (rack_far_lem v w)
 
-  ways-none : (o : Option ℕ) → is_some o ≡ false → limit_of o ≡ 0
-  ways-none None e = refl
-  ways-none (Some l) e = absurd (true≢false e)
+  ways_none : (o : Option ℕ) → is_some o ≡ false → limit_of o ≡ 0
+  ways_none None e = refl
+  ways_none (Some l) e = absurd (true≢false e)
 
-  throttled-none : (us : List Label) → throttled d us ≡ 0
-  throttled-none us = sum_none (point_count d) _ (λ v w. ap (only (is_tight (label us v))) (ways-none (point d v).limit (none_to (point_count d) _ no_limits v w)) ∙ only_zero (is_tight (label us v)))
+  throttled_none : (us : List Label) → throttled d us ≡ 0
+  throttled_none us = sum_none (point_count d) _ (λ v w. ap (only (is_tight (label us v))) (ways_none (point d v).limit (none_to (point_count d) _ no_limits v w)) ∙ only_zero (is_tight (label us v)))
 
   bonus : sum_to (run_count d) (λ k. only (is_far (label ls (run d k).tail) && x (run d k).tail) (run d k).upper) ≡ only (N && F) (uppers_out d (old_rack d))
   bonus =
       sym (gather₁ (point_count d) (run_count d) (λ k. (run d k).tail) (λ k. (run d k).upper) (λ v. is_far (label ls v) && x v) (λ k w. (law.each_run k w).tail_in))
-      ∙ sum_same (point_count d) _ (λ v. only (is_rack (point d v).mark) (only (N && F) (uppers_out d v))) (λ v w. rack_bonus (is_rack (point d v).mark) (is_far (label ls v)) F N (uppers_out d v) (λ e. ap (λ z. is_far (label ls z)) (is-rack v w e)))
+      ∙ sum_same (point_count d) _ (λ v. only (is_rack (point d v).mark) (only (N && F) (uppers_out d v))) (λ v w. rack_bonus (is_rack (point d v).mark) (is_far (label ls v)) F N (uppers_out d v) (λ e. ap (λ z. is_far (label ls z)) (is_rack_lem v w e)))
       ∙ sum_one (point_count d) _ (old_rack d) (λ v. only (N && F) (uppers_out d v)) (the_one_rack d plain-ends)
 
-  crossing-first : crossing (lowers_first d) ls
+  crossing_first : crossing (lowers_first d) ls
       ≡ sum_to (run_count d) (λ k. adds Lead (label ls (run d k).tail) (label ls (run d k).head) ((run d k).upper - (run d k).lower))
       + (sum_to (run_count d) (λ k. only (is_far (label ls (run d k).head)) (run d k).lower) + sum_to (run_count d) (λ k. only (is_near (label ls (run d k).tail)) (run d k).lower) + only (N && F) (uppers_out d (old_rack d)))
-  crossing-first =
+  crossing_first =
       let A : ℕ → ℕ = λ k. adds Lead (label ls (run d k).tail) (label ls (run d k).head) ((run d k).upper - (run d k).lower) in
       sum_runs d (λ r k. adds r.kind (label ls r.tail) (label ls r.head) r.upper)
       ∙ ap (λ z. sum_to (run_count d) A + (z + only (N && F) (uppers_out d (old_rack d)))) (ap₂ ◌+◌
@@ -272,42 +272,42 @@ module _ (d : Network) (law : Lawful d) (no_links : uses d Links ≡ false) (no_
       (sum_same (point_count d) _ _ (λ v w. and_far (is_near (label ls v)) _ (lowers_out d v) far)
       ∙ gather₁ (point_count d) (run_count d) (λ k. (run d k).tail) (λ k. (run d k).lower) (λ v. is_near (label ls v)) (λ k w. (law.each_run k w).tail_in)))
 
-  throttled-first : throttled (lowers_first d) ls ≡ 0
-  throttled-first =
+  throttled_first : throttled (lowers_first d) ls ≡ 0
+  throttled_first =
       sum_points d (λ v. only (is_tight (label ls v)) (limit_of (point (lowers_first d) v).limit))
       ∙ omega (
         arith,
         sum_none (point_count d) (λ v. only (is_tight (label ls v)) (limit_of (point (lowers_first d) v).limit))
-            (λ v w. ap (λ z. only (is_tight (label ls v)) (limit_of z.limit)) (old_point d v w) ∙ ap (only (is_tight (label ls v))) (ways-none (point d v).limit (none_to (point_count d) _ no_limits v w)) ∙ only_zero (is_tight (label ls v))),
+            (λ v w. ap (λ z. only (is_tight (label ls v)) (limit_of z.limit)) (old_point d v w) ∙ ap (only (is_tight (label ls v))) (ways_none (point d v).limit (none_to (point_count d) _ no_limits v w)) ∙ only_zero (is_tight (label ls v))),
         ap (λ q. only (is_tight (label ls (new_rack d))) (limit_of q.limit)) (the_rack d),
         only_zero (is_tight (label ls (new_rack d))),
         ap (λ q. only (is_tight (label ls (new_bar d))) (limit_of q.limit)) (the_bar d),
         only_zero (is_tight (label ls (new_bar d))),
       )
 
-  forced-first : forced (lowers_first d) ls ≡ 0
-  forced-first = sum_none (run_count (lowers_first d)) _ (λ k w. no-deduct (run (lowers_first d) k).kind _ _ _ (no_lower k w))
+  forced_first : forced (lowers_first d) ls ≡ 0
+  forced_first = sum_none (run_count (lowers_first d)) _ (λ k w. no_deduct (run (lowers_first d) k).kind _ _ _ (no_lower k w))
     where
-      no-deduct : (k : Kind) (a b : Label) (lo : ℕ) → lo ≡ 0 → deducts k a b lo ≡ 0
-      no-deduct k a b lo e = grind arith
+      no_deduct : (k : Kind) (a b : Label) (lo : ℕ) → lo ≡ 0 → deducts k a b lo ≡ 0
+      no_deduct k a b lo e = grind arith
 
       no_lower : (k : ℕ) → Within (run_count (lowers_first d)) k → (run (lowers_first d) k).lower ≡ 0
       no_lower = each_run₁ d (λ r. r.lower ≡ 0) (λ k w. refl) (λ v w. (refl, refl)) refl
 
-  read-run : (k : ℕ) → Within (run_count d) k → adds (run d k).kind (label up (run d k).tail) (label up (run d k).head) (run d k).upper + deducts (run d k).kind (label ls (run d k).tail) (label ls (run d k).head) (run d k).lower
+  read_run : (k : ℕ) → Within (run_count d) k → adds (run d k).kind (label up (run d k).tail) (label up (run d k).head) (run d k).upper + deducts (run d k).kind (label ls (run d k).tail) (label ls (run d k).head) (run d k).lower
       ≤ adds (run d k).kind (label ls (run d k).tail) (label ls (run d k).head) (run d k).upper + deducts (run d k).kind (label up (run d k).tail) (label up (run d k).head) (run d k).lower
       + only (is_far (label ls (run d k).tail) && x (run d k).tail) (run d k).upper
-  read-run k w =
+  read_run k w =
       let r = run d k in
       let h = law.each_run k w in
       let P : Label → Label → Type 0 = λ a b. adds r.kind a b r.upper + deducts r.kind (label ls r.tail) (label ls r.head) r.lower
       ≤ adds r.kind (label ls r.tail) (label ls r.head) r.upper + deducts r.kind a b r.lower + only (is_far (label ls r.tail) && x r.tail) r.upper in
       subst₂ P (sym (label_is r.tail h.tail_in)) (sym (label_is r.head h.head_in))
-      (plain-part r.kind (label ls r.tail) (label ls r.head) (x r.tail) (x r.head) r.lower r.upper h.ordered (none_to (run_count d) _ no_links k w))
+      (plain_part r.kind (label ls r.tail) (label ls r.head) (x r.tail) (x r.head) r.lower r.upper h.ordered (none_to (run_count d) _ no_links k w))
     where
-      plain-part : (k : Kind) (a b : Label) (x z : Bool) (lo up : ℕ) → lo ≤ up → is_link k ≡ false
+      plain_part : (k : Kind) (a b : Label) (x z : Bool) (lo up : ℕ) → lo ≤ up → is_link k ≡ false
           → adds k (reading a x false) (reading b z false) up + deducts k a b lo ≤ adds k a b up + deducts k (reading a x false) (reading b z false) lo + only (is_far a && x) up
-      plain-part k a b x z lo up h e = grind arith
+      plain_part k a b x z lo up h e = grind arith
 
   -- with less than all lowers in all, the labels are worth less than nothing
   pub short_worth : (t : ℕ) → worth (lowers_first d) ls ≡ pos t → t < all_lowers d → worth d up <ℤ pos 0
@@ -322,7 +322,7 @@ module _ (d : Network) (law : Lawful d) (no_links : uses d Links ≡ false) (no_
       let I : ℕ → ℕ = λ k. only (is_far (label ls (run d k).head)) (run d k).lower in
       let O : ℕ → ℕ = λ k. only (is_near (label ls (run d k).tail)) (run d k).lower in
       let L : ℕ → ℕ = λ k. (run d k).lower in
-      let reads = sum_below m (λ k. A' k + D k) (λ k. A k + D' k + B k) read-run in
+      let reads = sum_below m (λ k. A' k + D k) (λ k. A k + D' k + B k) read_run in
       let slacks = sum_same m (λ k. S k + (I k + O k) + D k) (λ k. A k + L k)
       (λ k w. let g = law.each_run k w in slack_run (run d k).kind _ _ (run d k).lower (run d k).upper (none_to m _ no_links k w) (loose _ g.tail_in) (loose _ g.head_in) g.ordered) in
       omega (
@@ -339,10 +339,10 @@ module _ (d : Network) (law : Lawful d) (no_links : uses d Links ≡ false) (no_
         sum_plus m I O,
         sum_plus m A L,
         bonus,
-        crossing-first,
-        throttled-first,
-        forced-first,
-        throttled-none up,
+        crossing_first,
+        throttled_first,
+        forced_first,
+        throttled_none up,
       )
 
   pub short_labelling : Labelling d up
@@ -354,12 +354,12 @@ module _ (d : Network) (law : Lawful d) (no_links : uses d Links ≡ false) (no_
   pub short_not_both : (far_rack d up && near_bar d up) ≡ false
   short_not_both = ⊎_elim
       (λ (e : N ≡ true). and_left _ _ (some_none (point_count d) _ (λ v w. ap (λ l. is_rack (point d v).mark && is_far l) (label_is v w)
-      ∙ read_rack (is_rack (point d v).mark) (is_far (label ls v)) F N (λ r. ap (λ z. is_far (label ls z)) (is-rack v w r)) e (label ls v) refl)))
+      ∙ read_rack (is_rack (point d v).mark) (is_far (label ls v)) F N (λ r. ap (λ z. is_far (label ls z)) (is_rack_lem v w r)) e (label ls v) refl)))
       (λ (e : N ≡ false). and_right _ _ (some_none (point_count d) _ (λ v w. ap (λ l. is_bar (point d v).mark && is_near l) (label_is v w)
-      ∙ read_bar (is_bar (point d v).mark) (is_near (label ls v)) N (x v) (λ b. ap (λ z. is_near (label ls z)) (is-bar v w b)) e (λ b. ap (λ r. r && (F && N)) (bar-no-rack (point d v).mark b)) (label ls v) refl)))
+      ∙ read_bar (is_bar (point d v).mark) (is_near (label ls v)) N (x v) (λ b. ap (λ z. is_near (label ls z)) (is_bar_lem v w b)) e (λ b. ap (λ r. r && (F && N)) (bar_no_rack (point d v).mark b)) (label ls v) refl)))
       (cases_Bool N)
     where
-      bar-no-rack : (k : Mark) → is_bar k ≡ true → is_rack k ≡ false
-      bar-no-rack Plain e = refl
-      bar-no-rack Rack e = absurd (false≢true e)
-      bar-no-rack Bar e = refl
+      bar_no_rack : (k : Mark) → is_bar k ≡ true → is_rack k ≡ false
+      bar_no_rack Plain e = refl
+      bar_no_rack Rack e = absurd (false≢true e)
+      bar_no_rack Bar e = refl

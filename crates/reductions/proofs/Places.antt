@@ -51,35 +51,35 @@ module _ {A : Type 0} (p : A → Bool) (d : A) where
   abbrev passed : List A → ℕ → ℕ
   passed xs k = count_to k (λ i. p (nth xs i d))
 
-  passed-cons : (x : A) (xs : List A) (k : ℕ) → passed (x ∷ xs) (suc k) ≡ only (p x) 1 + passed xs k
-  passed-cons x xs k =
+  passed_cons : (x : A) (xs : List A) (k : ℕ) → passed (x ∷ xs) (suc k) ≡ only (p x) 1 + passed xs k
+  passed_cons x xs k =
       sum_first k (λ i. only (p (nth (x ∷ xs) i d)) 1)
       ∙ ap (λ z. only (p x) 1 + z) (sum_same k _ _ (λ i w. ap (λ y. only (p y) 1) (nth_cons x xs i d w.0)))
 
-  length-kept : (b : Bool) (x : A) (ks : List A) (n : ℕ) → length ks ≡ n → length (cond b (x ∷ ks) ks) ≡ only b 1 + n
-  length-kept true x ks n e = omega arith
-  length-kept false x ks n e = omega arith
+  length_kept : (b : Bool) (x : A) (ks : List A) (n : ℕ) → length ks ≡ n → length (cond b (x ∷ ks) ks) ≡ only b 1 + n
+  length_kept true x ks n e = omega arith
+  length_kept false x ks n e = omega arith
 
   pub length_picked : (xs : List A) → length (filter p xs) ≡ passed xs (length xs)
   length_picked [] = refl
-  length_picked (x ∷ xs) = length-kept (p x) x _ _ (length_picked xs) ∙ sym (passed-cons x xs (length xs))
+  length_picked (x ∷ xs) = length_kept (p x) x _ _ (length_picked xs) ∙ sym (passed_cons x xs (length xs))
 
-  kept-first : (b : Bool) (x : A) (ks : List A) → b ≡ true → nth (cond b (x ∷ ks) ks) (0 + only b 1) d ≡ x
-  kept-first true x ks e = refl
-  kept-first false x ks e = absurd (true≢false (sym e))
+  kept_first : (b : Bool) (x : A) (ks : List A) → b ≡ true → nth (cond b (x ∷ ks) ks) (0 + only b 1) d ≡ x
+  kept_first true x ks e = refl
+  kept_first false x ks e = absurd (true≢false (sym e))
 
-  kept-later : (b : Bool) (x : A) (ks : List A) (c : ℕ) → 1 ≤ c → nth (cond b (x ∷ ks) ks) (only b 1 + c) d ≡ nth ks c d
-  kept-later true x ks c h = rw one-add (nth_cons x ks c d h)
-  kept-later false x ks c h = rw zero-add refl
+  kept_later : (b : Bool) (x : A) (ks : List A) (c : ℕ) → 1 ≤ c → nth (cond b (x ∷ ks) ks) (only b 1 + c) d ≡ nth ks c d
+  kept_later true x ks c h = rw one-add (nth_cons x ks c d h)
+  kept_later false x ks c h = rw zero-add refl
 
   -- the k-th of a list, where it passes, has the number among those that pass that counts it in
   pub nth_picked : (xs : List A) (k : ℕ) → Within (length xs) k → p (nth xs k d) ≡ true → nth (filter p xs) (passed xs k) d ≡ nth xs k d
   nth_picked [] k w e = let no_such : ⊥ = omega arith in absurd no_such
   nth_picked (x ∷ xs) zero w e = let no_such : ⊥ = omega arith in absurd no_such
-  nth_picked (x ∷ xs) (suc zero) w e = kept-first (p x) x (filter p xs) e
+  nth_picked (x ∷ xs) (suc zero) w e = kept_first (p x) x (filter p xs) e
   nth_picked (x ∷ xs) (suc (suc j)) w e =
-      ap (λ c. nth (filter p (x ∷ xs)) c d) (passed-cons x xs (suc j))
-      ∙ kept-later (p x) x (filter p xs) (passed xs (suc j)) (omega (arith, ap (λ b. only b 1) e))
+      ap (λ c. nth (filter p (x ∷ xs)) c d) (passed_cons x xs (suc j))
+      ∙ kept_later (p x) x (filter p xs) (passed xs (suc j)) (omega (arith, ap (λ b. only b 1) e))
       ∙ nth_picked xs (suc j) (omega arith) e
 
 pub sum_longer : (n k : ℕ) (f : ℕ → ℕ) → k ≤ n → sum_to k f ≤ sum_to n f

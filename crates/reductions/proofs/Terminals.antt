@@ -1,5 +1,5 @@
 -- The terminals layer: the network below is lawful, and a right answer to it is read as a right answer.
-use Rattle.std.proofs.Common.{◌≡◌, ℕ, zero, suc, ◌+◌, ◌-◌, ◌<◌, ◌≤◌, Bool, true, false, cond, ◌&&◌, ◌||◌, eqb, ◌≢◌, ◌⊎◌, List, [], ◌∷◌, map, length, get_or, ℤ, pos, negsuc, nat_abs, ◌≤ℤ◌, is_some, None, sym, refl, ap, ◌∙◌, subst, ap₂, subst₂, ⊎_elim, true≢false, zero-le, add-one, arith, length-append}
+use Rattle.std.proofs.Common.{◌≡◌, ℕ, zero, suc, ◌+◌, ◌<◌, ◌≤◌, Bool, true, false, cond, ◌&&◌, ◌||◌, eqb, List, [], ◌∷◌, map, length, get_or, ℤ, pos, negsuc, nat_abs, ◌≤ℤ◌, is_some, None, sym, refl, ap, ◌∙◌, subst, ap₂, subst₂, ⊎_elim, true≢false, zero-le, add-one, arith, length-append}
 use Rattle.std.proofs.lemmas.Int.{ints}
 use Rattle.std.proofs.lemmas.List.{length-map}
 use Rattle.std.proofs.lemmas.Bool.{cond-true, cond-false, eqb-true, eq-eqb, ne_eqb, or_from, and_cases, and_left, and_right}
@@ -32,11 +32,11 @@ module _ (d : Network) where
   abbrev pub m : ℕ
   m = run_count d
 
-  abbrev rackAt : ℕ → Bool
-  rackAt v = is_rack (point d v).mark
+  abbrev rack_at : ℕ → Bool
+  rack_at v = is_rack (point d v).mark
 
-  abbrev barAt : ℕ → Bool
-  barAt v = is_bar (point d v).mark
+  abbrev bar_at : ℕ → Bool
+  bar_at v = is_bar (point d v).mark
 
   abbrev ends : List Point
   ends = record { mark = Rack; limit = None } ∷ record { mark = Bar; limit = None } ∷ []
@@ -50,16 +50,16 @@ module _ (d : Network) where
   pub old_point : (v : ℕ) → Within n v → point (terminals_below d) v ≡ unmarked (point d v)
   old_point v w = nth_front (map unmarked d.points) ends v no_point (omega (arith, same_count)) ∙ nth_map unmarked d.points v no_point no_point w
 
-  new-point : (i j : ℕ) → 1 ≤ i → n + i ≡ j → point (terminals_below d) j ≡ nth ends i no_point
-  new-point i j h e =
+  new_point : (i j : ℕ) → 1 ≤ i → n + i ≡ j → point (terminals_below d) j ≡ nth ends i no_point
+  new_point i j h e =
       let q : j ≡ length (map unmarked d.points) + i = omega (arith, same_count) in
       ap (point (terminals_below d)) q ∙ nth_rest (map unmarked d.points) ends i no_point h
 
   pub the_rack : point (terminals_below d) (new_rack d) ≡ record { mark = Rack; limit = None }
-  the_rack = new-point 1 (new_rack d) (omega arith) (omega arith)
+  the_rack = new_point 1 (new_rack d) (omega arith) (omega arith)
 
   pub the_bar : point (terminals_below d) (new_bar d) ≡ record { mark = Bar; limit = None }
-  the_bar = new-point 2 (new_bar d) (omega arith) (omega arith)
+  the_bar = new_point 2 (new_bar d) (omega arith) (omega arith)
 
   -- sums over the runs and over the points below
   sum_runs : (g : Run → ℕ → ℕ) → sum_to (run_count (terminals_below d)) (λ k. g (run (terminals_below d) k) k)
@@ -89,7 +89,7 @@ terminals_lawful d law =
       some_point = omega (arith, point_count_lem d);
       each_run = each_all d.runs (n d) (is_terminal d) (terminal_lead d) (λ r k. LawfulRun (point_count (terminals_below d)) r)
           (λ k w. let h = law.each_run k w in record { tail_in = old_in d _ h.tail_in; head_in = old_in d _ h.head_in; apart = h.apart; ordered = h.ordered; link_lower = h.link_lower })
-          (λ v w e. lead_lawful d v (rackAt d v) _ _ w);
+          (λ v w e. lead_lawful d v (rack_at d v) _ _ w);
     }
 
 -- what the lead of an old terminal u brings to, and takes from, a point v
@@ -97,17 +97,17 @@ module _ (r b u v x y : ℕ) (f : ℤ) where
   abbrev lead : Mark → Run
   lead k = cond (is_rack k) (record { kind = Lead; tail = r; head = u; lower = 0; upper = x }) (record { kind = Lead; tail = u; head = b; lower = 0; upper = y })
 
-  lead-brings : (k : Mark) → ((is_rack k || is_bar k) ≡ true → back f ≡ 0)
+  lead_brings : (k : Mark) → ((is_rack k || is_bar k) ≡ true → back f ≡ 0)
       → only (is_rack k || is_bar k) (brings (lead k) f v) ≡ only (eqb u v) (only (is_rack k) (forth f)) + only (eqb b v) (only (is_bar k) (forth f))
-  lead-brings Plain h = omega (arith, only_zero (eqb u v), only_zero (eqb b v))
-  lead-brings Rack h = omega (arith, ap (only (eqb r v)) (h refl), only_zero (eqb r v), only_zero (eqb b v))
-  lead-brings Bar h = omega (arith, ap (only (eqb u v)) (h refl), only_zero (eqb u v))
+  lead_brings Plain h = omega (arith, only_zero (eqb u v), only_zero (eqb b v))
+  lead_brings Rack h = omega (arith, ap (only (eqb r v)) (h refl), only_zero (eqb r v), only_zero (eqb b v))
+  lead_brings Bar h = omega (arith, ap (only (eqb u v)) (h refl), only_zero (eqb u v))
 
-  lead-takes : (k : Mark) → ((is_rack k || is_bar k) ≡ true → back f ≡ 0)
+  lead_takes : (k : Mark) → ((is_rack k || is_bar k) ≡ true → back f ≡ 0)
       → only (is_rack k || is_bar k) (takes (lead k) f v) ≡ only (eqb r v) (only (is_rack k) (forth f)) + only (eqb u v) (only (is_bar k) (forth f))
-  lead-takes Plain h = omega (arith, only_zero (eqb u v), only_zero (eqb r v))
-  lead-takes Rack h = omega (arith, ap (only (eqb u v)) (h refl), only_zero (eqb u v))
-  lead-takes Bar h = omega (arith, ap (only (eqb b v)) (h refl), only_zero (eqb r v), only_zero (eqb b v))
+  lead_takes Plain h = omega (arith, only_zero (eqb u v), only_zero (eqb r v))
+  lead_takes Rack h = omega (arith, ap (only (eqb u v)) (h refl), only_zero (eqb u v))
+  lead_takes Bar h = omega (arith, ap (only (eqb b v)) (h refl), only_zero (eqb r v), only_zero (eqb b v))
 
 lead_forward : (r b u x y : ℕ) (f : ℤ) (k : Mark) → let l : Run = lead r b u u x y f k in InRange l.kind l.lower l.upper f → back f ≡ 0
 lead_forward r b u x y f Plain h = (lead_flow 0 y f h).2
@@ -126,10 +126,10 @@ apart_brings r f v t h =
 module _ (d : Network) (p : Plan) (ok : Feasible (terminals_below d) p) where
   -- the supply and the delivery of an old point
   abbrev sup : ℕ → ℕ
-  sup v = only (rackAt d v) (forth (flow p (lead_of d v)))
+  sup v = only (rack_at d v) (forth (flow p (lead_of d v)))
 
   abbrev del : ℕ → ℕ
-  del v = only (barAt d v) (forth (flow p (lead_of d v)))
+  del v = only (bar_at d v) (forth (flow p (lead_of d v)))
 
   forward : (u : ℕ) → Within (n d) u → is_terminal d u ≡ true → back (flow p (lead_of d u)) ≡ 0
   forward u w e =
@@ -138,60 +138,60 @@ module _ (d : Network) (p : Plan) (ok : Feasible (terminals_below d) p) where
       (ok.in_range (lead_of d u) (place_in d.runs (n d) (is_terminal d) (terminal_lead d) u w e)))
 
   -- what the added leads bring and take
-  added-in : (v : ℕ) → sum_to (n d) (λ u. only (is_terminal d u) (brings (terminal_lead d u) (flow p (lead_of d u)) v))
+  added_in : (v : ℕ) → sum_to (n d) (λ u. only (is_terminal d u) (brings (terminal_lead d u) (flow p (lead_of d u)) v))
       ≡ sum_to (n d) (λ u. only (eqb u v) (sup u)) + sum_to (n d) (λ u. only (eqb (new_bar d) v) (del u))
-  added-in v =
-      sum_same (n d) _ _ (λ u w. lead-brings (new_rack d) (new_bar d) u v (uppers_leaving d u) (uppers_entering d u) (flow p (lead_of d u)) (point d u).mark (forward u w))
+  added_in v =
+      sum_same (n d) _ _ (λ u w. lead_brings (new_rack d) (new_bar d) u v (uppers_leaving d u) (uppers_entering d u) (flow p (lead_of d u)) (point d u).mark (forward u w))
       ∙ sum_plus (n d) _ _
 
   added_out : (v : ℕ) → sum_to (n d) (λ u. only (is_terminal d u) (takes (terminal_lead d u) (flow p (lead_of d u)) v))
       ≡ sum_to (n d) (λ u. only (eqb (new_rack d) v) (sup u)) + sum_to (n d) (λ u. only (eqb u v) (del u))
   added_out v =
-      sum_same (n d) _ _ (λ u w. lead-takes (new_rack d) (new_bar d) u v (uppers_leaving d u) (uppers_entering d u) (flow p (lead_of d u)) (point d u).mark (forward u w))
+      sum_same (n d) _ _ (λ u w. lead_takes (new_rack d) (new_bar d) u v (uppers_leaving d u) (uppers_entering d u) (flow p (lead_of d u)) (point d u).mark (forward u w))
       ∙ sum_plus (n d) _ _
 
-  flow-is : (k : ℕ) → Within (m d) k → flow (terminals_plan d p) k ≡ flow p k
-  flow-is k w = nth_made (flow p) (m d) k (pos 0) w
+  flow_is : (k : ℕ) → Within (m d) k → flow (terminals_plan d p) k ≡ flow p k
+  flow_is k w = nth_made (flow p) (m d) k (pos 0) w
 
-  supply-is : (v : ℕ) → Within (n d) v → supply (terminals_plan d p) v ≡ sup v
-  supply-is v w = nth_made sup (n d) v 0 w
+  supply_is : (v : ℕ) → Within (n d) v → supply (terminals_plan d p) v ≡ sup v
+  supply_is v w = nth_made sup (n d) v 0 w
 
-  delivery-is : (v : ℕ) → Within (n d) v → delivery (terminals_plan d p) v ≡ del v
-  delivery-is v w = nth_made del (n d) v 0 w
+  delivery_is : (v : ℕ) → Within (n d) v → delivery (terminals_plan d p) v ≡ del v
+  delivery_is v w = nth_made del (n d) v 0 w
 
   off : (x v : ℕ) (f : ℕ → ℕ) → (x ≡ v → ⊥) → sum_to (n d) (λ u. only (eqb x v) (f u)) ≡ 0
   off x v f ne = sum_none (n d) _ (λ u w. ap (λ t. only t (f u)) (ne_eqb x v ne))
 
-  old-entering : (v : ℕ) → Within (n d) v → entering (terminals_below d) p v ≡ entering d (terminals_plan d p) v + sup v
-  old-entering v w =
+  old_entering : (v : ℕ) → Within (n d) v → entering (terminals_below d) p v ≡ entering d (terminals_plan d p) v + sup v
+  old_entering v w =
       sum_runs d (λ r k. brings r (flow p k) v)
       ∙ omega (
         arith,
-        sum_same (m d) (λ k. brings (run d k) (flow (terminals_plan d p) k) v) (λ k. brings (run d k) (flow p k) v) (λ k i. ap (λ f. brings (run d k) f v) (flow-is k i)),
-        added-in v,
+        sum_same (m d) (λ k. brings (run d k) (flow (terminals_plan d p) k) v) (λ k. brings (run d k) (flow p k) v) (λ k i. ap (λ f. brings (run d k) f v) (flow_is k i)),
+        added_in v,
         sum_at (n d) v sup w,
         off (new_bar d) v del (λ q. omega arith),
       )
 
-  old-leaving : (v : ℕ) → Within (n d) v → leaving (terminals_below d) p v ≡ leaving d (terminals_plan d p) v + del v
-  old-leaving v w =
+  old_leaving : (v : ℕ) → Within (n d) v → leaving (terminals_below d) p v ≡ leaving d (terminals_plan d p) v + del v
+  old_leaving v w =
       sum_runs d (λ r k. takes r (flow p k) v)
       ∙ omega (
         arith,
-        sum_same (m d) (λ k. takes (run d k) (flow (terminals_plan d p) k) v) (λ k. takes (run d k) (flow p k) v) (λ k i. ap (λ f. takes (run d k) f v) (flow-is k i)),
+        sum_same (m d) (λ k. takes (run d k) (flow (terminals_plan d p) k) v) (λ k. takes (run d k) (flow p k) v) (λ k i. ap (λ f. takes (run d k) f v) (flow_is k i)),
         added_out v,
         sum_at (n d) v del w,
         off (new_rack d) v sup (λ q. omega arith),
       )
 
-  none-supplied : (v : ℕ) → Within (n d) v → supply p v ≡ 0
-  none-supplied v w = ok.racks_supply v (old_in d v w) (ap (λ q. is_rack q.mark) (old_point d v w))
+  none_supplied : (v : ℕ) → Within (n d) v → supply p v ≡ 0
+  none_supplied v w = ok.racks_supply v (old_in d v w) (ap (λ q. is_rack q.mark) (old_point d v w))
 
-  none-delivered : (v : ℕ) → Within (n d) v → delivery p v ≡ 0
-  none-delivered v w = ok.bars_deliver v (old_in d v w) (ap (λ q. is_bar q.mark) (old_point d v w))
+  none_delivered : (v : ℕ) → Within (n d) v → delivery p v ≡ 0
+  none_delivered v w = ok.bars_deliver v (old_in d v w) (ap (λ q. is_bar q.mark) (old_point d v w))
 
-  limit-old : (v : ℕ) → Within (n d) v → Under (point d v).limit (entering (terminals_below d) p v + supply p v)
-  limit-old v w = subst (λ q. Under q.limit (entering (terminals_below d) p v + supply p v)) (old_point d v w) (ok.limited v (old_in d v w))
+  limit_old : (v : ℕ) → Within (n d) v → Under (point d v).limit (entering (terminals_below d) p v + supply p v)
+  limit_old v w = subst (λ q. Under q.limit (entering (terminals_below d) p v + supply p v)) (old_point d v w) (ok.limited v (old_in d v w))
 
   pub terminals_feasible : Feasible d (terminals_plan d p)
   terminals_feasible =
@@ -199,12 +199,12 @@ module _ (d : Network) (p : Plan) (ok : Feasible (terminals_below d) p) where
         flow_count = length-map-range_with_len (flow p) 1 (m d);
         supply_count = length-map-range_with_len sup 1 (n d);
         delivery_count = length-map-range_with_len del 1 (n d);
-        racks_supply = λ v w e. supply-is v w ∙ ap (λ b. only b (forth (flow p (lead_of d v)))) e;
-        bars_deliver = λ v w e. delivery-is v w ∙ ap (λ b. only b (forth (flow p (lead_of d v)))) e;
-        in_range = λ k w. subst (InRange (run d k).kind (run d k).lower (run d k).upper) (sym (flow-is k w)) (subst (λ r. InRange r.kind r.lower r.upper (flow p k)) (at_front d.runs (n d) (is_terminal d) (terminal_lead d) k w)
+        racks_supply = λ v w e. supply_is v w ∙ ap (λ b. only b (forth (flow p (lead_of d v)))) e;
+        bars_deliver = λ v w e. delivery_is v w ∙ ap (λ b. only b (forth (flow p (lead_of d v)))) e;
+        in_range = λ k w. subst (InRange (run d k).kind (run d k).lower (run d k).upper) (sym (flow_is k w)) (subst (λ r. InRange r.kind r.lower r.upper (flow p k)) (at_front d.runs (n d) (is_terminal d) (terminal_lead d) k w)
             (ok.in_range k (front_in d.runs (n d) (is_terminal d) (terminal_lead d) k w)));
-        balanced = λ v w. omega (arith, supply-is v w, delivery-is v w, old-entering v w, old-leaving v w, none-supplied v w, none-delivered v w, ok.balanced v (old_in d v w));
-        limited = λ v w. subst (Under (point d v).limit) (omega (arith, supply-is v w, old-entering v w, none-supplied v w)) (limit-old v w);
+        balanced = λ v w. omega (arith, supply_is v w, delivery_is v w, old_entering v w, old_leaving v w, none_supplied v w, none_delivered v w, ok.balanced v (old_in d v w));
+        limited = λ v w. subst (Under (point d v).limit) (omega (arith, supply_is v w, old_entering v w, none_supplied v w)) (limit_old v w);
       }
 
   module _ (law : Lawful d) where
@@ -216,13 +216,13 @@ module _ (d : Network) (p : Plan) (ok : Feasible (terminals_below d) p) where
         let r = law.each_run k w in
         apart_brings (run d k) (flow p k) (new_rack d) (λ q. omega (arith, r.tail_in)) (λ q. omega (arith, r.head_in))
 
-    rack-entering : entering (terminals_below d) p (new_rack d) ≡ 0
-    rack-entering =
+    rack_entering : entering (terminals_below d) p (new_rack d) ≡ 0
+    rack_entering =
         sum_runs d (λ r k. brings r (flow p k) (new_rack d))
-        ∙ omega (arith, sum_none (m d) (λ k. brings (run d k) (flow p k) (new_rack d)) (λ k w. (old_apart k w).0), added-in (new_rack d), outside sup, off (new_bar d) (new_rack d) del (λ q. omega arith))
+        ∙ omega (arith, sum_none (m d) (λ k. brings (run d k) (flow p k) (new_rack d)) (λ k w. (old_apart k w).0), added_in (new_rack d), outside sup, off (new_bar d) (new_rack d) del (λ q. omega arith))
 
-    rack-leaving : leaving (terminals_below d) p (new_rack d) ≡ sum_to (n d) sup
-    rack-leaving =
+    rack_leaving : leaving (terminals_below d) p (new_rack d) ≡ sum_to (n d) sup
+    rack_leaving =
         sum_runs d (λ r k. takes r (flow p k) (new_rack d))
         ∙ omega (
           arith,
@@ -236,14 +236,14 @@ module _ (d : Network) (p : Plan) (ok : Feasible (terminals_below d) p) where
     terminals_total =
         omega (
           arith,
-          sum_same (n d) (supply (terminals_plan d p)) sup supply-is,
+          sum_same (n d) (supply (terminals_plan d p)) sup supply_is,
           sum_points d (supply p),
-          sum_none (n d) (supply p) none-supplied,
+          sum_none (n d) (supply p) none_supplied,
           ok.racks_supply (new_bar d) (bar_in d) (ap (λ q. is_rack q.mark) (the_bar d)),
           ok.bars_deliver (new_rack d) (rack_in d) (ap (λ q. is_bar q.mark) (the_rack d)),
           ok.balanced (new_rack d) (rack_in d),
-          rack-entering,
-          rack-leaving,
+          rack_entering,
+          rack_leaving,
         )
 
 pub some_none : (n : ℕ) (t : ℕ → Bool) → ((k : ℕ) → Within n k → t k ≡ false) → some_to n t ≡ false
@@ -256,22 +256,22 @@ module _ (d : Network) (ls : List Label) (marked : Labelling (terminals_below d)
   up = terminals_labels d ls
 
   abbrev x : ℕ → Bool
-  x v = rackAt d v && is_near (label ls (new_rack d))
+  x v = rack_at d v && is_near (label ls (new_rack d))
 
   abbrev y : ℕ → Bool
-  y v = barAt d v && is_far (label ls (new_bar d))
+  y v = bar_at d v && is_far (label ls (new_bar d))
 
   label_is : (v : ℕ) → Within (n d) v → label up v ≡ reading (label ls v) (x v) (y v)
   label_is v w = nth_made (terminals_label d ls) (n d) v _ w
 
-  tight-is : (v : ℕ) → Within (n d) v → is_tight (label up v) ≡ is_tight (label ls v)
-  tight-is v w = ap is_tight (label_is v w) ∙ reading_tight (label ls v) (x v) (y v)
+  tight_is : (v : ℕ) → Within (n d) v → is_tight (label up v) ≡ is_tight (label ls v)
+  tight_is v w = ap is_tight (label_is v w) ∙ reading_tight (label ls v) (x v) (y v)
 
-  up-labelling : Labelling d up
-  up-labelling =
+  up_labelling : Labelling d up
+  up_labelling =
       record {
         label_count = length-map-range_with_len (terminals_label d ls) 1 (n d);
-        tight_limited = λ v w e. sym (ap (λ q. is_some q.limit) (old_point d v w)) ∙ marked.tight_limited v (old_in d v w) (sym (tight-is v w) ∙ e);
+        tight_limited = λ v w e. sym (ap (λ q. is_some q.limit) (old_point d v w)) ∙ marked.tight_limited v (old_in d v w) (sym (tight_is v w) ∙ e);
       }
 
   loose : (v : ℕ) → Within (point_count (terminals_below d)) v → is_some (point (terminals_below d) v).limit ≡ false → is_tight (label ls v) ≡ false
@@ -281,21 +281,21 @@ module _ (d : Network) (ls : List Label) (marked : Labelling (terminals_below d)
       not_so true h = absurd (h refl)
       not_so false h = refl
 
-  racks-read : far_rack (terminals_below d) ls ≡ false → far_rack d up ≡ false
-  racks-read e =
+  racks_read : far_rack (terminals_below d) ls ≡ false → far_rack d up ≡ false
+  racks_read e =
       let here = none_to (point_count (terminals_below d)) _ e (new_rack d) (rack_in d) in
       let near : is_near (label ls (new_rack d)) ≡ true =
       then_near (label ls (new_rack d)) (sym (ap (λ q. is_rack q.mark && is_far (label ls (new_rack d))) (the_rack d)) ∙ here)
       (loose (new_rack d) (rack_in d) (ap (λ q. is_some q.limit) (the_rack d))) in
-      some_none (n d) _ (λ v w. ap (λ l. rackAt d v && is_far l) (label_is v w) ∙ rack_read (point d v).mark (label ls v) _ _ near)
+      some_none (n d) _ (λ v w. ap (λ l. rack_at d v && is_far l) (label_is v w) ∙ rack_read (point d v).mark (label ls v) _ _ near)
 
-  bars-read : near_bar (terminals_below d) ls ≡ false → near_bar d up ≡ false
-  bars-read e =
+  bars_read : near_bar (terminals_below d) ls ≡ false → near_bar d up ≡ false
+  bars_read e =
       let here = none_to (point_count (terminals_below d)) _ e (new_bar d) (bar_in d) in
       let far : is_far (label ls (new_bar d)) ≡ true =
       then_far (label ls (new_bar d)) (sym (ap (λ q. is_bar q.mark && is_near (label ls (new_bar d))) (the_bar d)) ∙ here)
       (loose (new_bar d) (bar_in d) (ap (λ q. is_some q.limit) (the_bar d))) in
-      some_none (n d) _ (λ v w. ap (λ l. barAt d v && is_near l) (label_is v w) ∙ bar_read (point d v).mark (label ls v) _ _ far)
+      some_none (n d) _ (λ v w. ap (λ l. bar_at d v && is_near l) (label_is v w) ∙ bar_read (point d v).mark (label ls v) _ _ far)
 
   -- what the added leads add
   abbrev s : ℕ → Bool
@@ -322,34 +322,34 @@ module _ (d : Network) (ls : List Label) (marked : Labelling (terminals_below d)
     by_in = gather (n d) (m d) (λ k. (run d k).head) (λ k. (run d k).tail) (λ k. (run d k).upper) (λ k. only (is_link (run d k).kind) (run d k).upper) s'
         (λ k w. (law.each_run k w).head_in) (λ k w. (law.each_run k w).tail_in)
 
-    crossing-down : crossing (terminals_below d) ls ≡ crossing d ls + (sum_to (m d) out_of + sum_to (m d) into)
-    crossing-down =
+    crossing_down : crossing (terminals_below d) ls ≡ crossing d ls + (sum_to (m d) out_of + sum_to (m d) into)
+    crossing_down =
         sum_runs d (λ r k. adds r.kind (label ls r.tail) (label ls r.head) r.upper)
         ∙ ap (λ z. crossing d ls + z)
         (sum_same (n d) _ _ (λ v w. lead_adds (point d v).mark (new_rack d) (new_bar d) v (uppers_leaving d v) (uppers_entering d v) (label ls))
         ∙ sum_plus (n d) (λ v. only (s v) (uppers_leaving d v)) (λ v. only (s' v) (uppers_entering d v)) ∙ ap₂ ◌+◌ by_out by_in)
 
-    forced-down : forced (terminals_below d) ls ≡ forced d ls
-    forced-down =
+    forced_down : forced (terminals_below d) ls ≡ forced d ls
+    forced_down =
         sum_runs d (λ r k. deducts r.kind (label ls r.tail) (label ls r.head) r.lower)
         ∙ omega (arith, sum_none (n d) _ (λ v w. lead_deducts (point d v).mark (new_rack d) (new_bar d) v (uppers_leaving d v) (uppers_entering d v) (label ls)))
 
-    throttled-down : throttled (terminals_below d) ls ≡ throttled d up
-    throttled-down =
+    throttled_down : throttled (terminals_below d) ls ≡ throttled d up
+    throttled_down =
         sum_points d (λ v. only (is_tight (label ls v)) (limit_of (point (terminals_below d) v).limit))
         ∙ omega (
           arith,
           sum_same (n d) (λ v. only (is_tight (label ls v)) (limit_of (point (terminals_below d) v).limit)) (λ v. only (is_tight (label up v)) (limit_of (point d v).limit))
-              (λ v w. ap₂ (λ t q. only t (limit_of q.limit)) (sym (tight-is v w)) (old_point d v w)),
+              (λ v w. ap₂ (λ t q. only t (limit_of q.limit)) (sym (tight_is v w)) (old_point d v w)),
           ap (λ q. only (is_tight (label ls (new_rack d))) (limit_of q.limit)) (the_rack d),
           only_zero (is_tight (label ls (new_rack d))),
           ap (λ q. only (is_tight (label ls (new_bar d))) (limit_of q.limit)) (the_bar d),
           only_zero (is_tight (label ls (new_bar d))),
         )
 
-    read-run : (k : ℕ) → Within (m d) k → adds (run d k).kind (label up (run d k).tail) (label up (run d k).head) (run d k).upper + deducts (run d k).kind (label ls (run d k).tail) (label ls (run d k).head) (run d k).lower
+    read_run : (k : ℕ) → Within (m d) k → adds (run d k).kind (label up (run d k).tail) (label up (run d k).head) (run d k).upper + deducts (run d k).kind (label ls (run d k).tail) (label ls (run d k).head) (run d k).lower
         ≤ adds (run d k).kind (label ls (run d k).tail) (label ls (run d k).head) (run d k).upper + deducts (run d k).kind (label up (run d k).tail) (label up (run d k).head) (run d k).lower + out_of k + into k
-    read-run k w =
+    read_run k w =
         let r = run d k in
         let h = law.each_run k w in
         let P : Label → Label → Type 0 = λ a b. adds r.kind a b r.upper + deducts r.kind (label ls r.tail) (label ls r.head) r.lower
@@ -363,7 +363,7 @@ module _ (d : Network) (ls : List Label) (marked : Labelling (terminals_below d)
         let D' : ℕ → ℕ = λ k. deducts (run d k).kind (label up (run d k).tail) (label up (run d k).head) (run d k).lower in
         let A : ℕ → ℕ = λ k. adds (run d k).kind (label ls (run d k).tail) (label ls (run d k).head) (run d k).upper in
         let D : ℕ → ℕ = λ k. deducts (run d k).kind (label ls (run d k).tail) (label ls (run d k).head) (run d k).lower in
-        let each = sum_below (m d) (λ k. A' k + D k) (λ k. A k + D' k + out_of k + into k) read-run in
+        let each = sum_below (m d) (λ k. A' k + D k) (λ k. A k + D' k + out_of k + into k) read_run in
         omega (
           arith,
           ints,
@@ -372,44 +372,44 @@ module _ (d : Network) (ls : List Label) (marked : Labelling (terminals_below d)
           sum_plus (m d) (λ k. A k + D' k + out_of k) into,
           sum_plus (m d) (λ k. A k + D' k) out_of,
           sum_plus (m d) A D',
-          crossing-down,
-          forced-down,
-          throttled-down,
+          crossing_down,
+          forced_down,
+          throttled_down,
         )
 
 pub terminals_right : (d : Network) → Lawful d → (a : Answer) → Right (terminals_below d) a → Right d (terminals_above d a)
 terminals_right d law (Planned p t ls) (ok, sum, cut, equal) =
     let sound = terminals_feasible d p ok in
     let cut' : Cut d (terminals_labels d ls) = record {
-      labelled = up-labelling d ls cut.labelled;
-      no_far_rack = racks-read d ls cut.labelled cut.no_far_rack;
-      no_near_bar = bars-read d ls cut.labelled cut.no_near_bar;
+      labelled = up_labelling d ls cut.labelled;
+      no_far_rack = racks_read d ls cut.labelled cut.no_far_rack;
+      no_near_bar = bars_read d ls cut.labelled cut.no_near_bar;
     } in
     let sum' : t ≡ total (terminals_plan d p) = omega (arith, sum, terminals_total d p ok law, total_is (terminals_below d) p ok, total_is d (terminals_plan d p) sound) in
     (sound, sum', cut', omega (arith, ints, equal, sum', read_worth d ls cut.labelled law, weak_duality d law (terminals_plan d p) sound (terminals_labels d ls) cut'))
 terminals_right d law (Short ls) short =
     record {
-      labelled = up-labelling d ls short.labelled;
+      labelled = up_labelling d ls short.labelled;
       negative = omega (arith, ints, short.negative, read_worth d ls short.labelled law);
       not_both = ⊎_elim
-          (λ (e : far_rack (terminals_below d) ls ≡ false). and_left _ _ (racks-read d ls short.labelled e))
-          (λ (e : near_bar (terminals_below d) ls ≡ false). and_right _ _ (bars-read d ls short.labelled e))
+          (λ (e : far_rack (terminals_below d) ls ≡ false). and_left _ _ (racks_read d ls short.labelled e))
+          (λ (e : near_bar (terminals_below d) ls ≡ false). and_right _ _ (bars_read d ls short.labelled e))
           (and_cases _ _ short.not_both);
     }
 
 -- a lawful run is at a point with one end only
 once : (k : Kind) (t h v u : ℕ) → (t ≡ h → ⊥) → only (eqb t v || (is_link k && eqb h v)) u ≡ only (eqb t v) u + only (eqb h v) (only (is_link k) u)
-once Lead t h v u ne = lead-once (eqb t v) (eqb h v) u
+once Lead t h v u ne = lead_once (eqb t v) (eqb h v) u
   where
-    lead-once : (a b : Bool) (u : ℕ) → only (a || (false && b)) u ≡ only a u + only b 0
-    lead-once a b u = grind arith
-once Link t h v u ne = link-once (eqb t v) (eqb h v) u (λ a b. ne (eqb-true t v a ∙ sym (eqb-true h v b)))
+    lead_once : (a b : Bool) (u : ℕ) → only (a || (false && b)) u ≡ only a u + only b 0
+    lead_once a b u = grind arith
+once Link t h v u ne = link_once (eqb t v) (eqb h v) u (λ a b. ne (eqb-true t v a ∙ sym (eqb-true h v b)))
   where
-    link-once : (a b : Bool) (u : ℕ) → (a ≡ true → b ≡ true → ⊥) → only (a || (true && b)) u ≡ only a u + only b u
-    link-once true true u h = absurd (h refl refl)
-    link-once true false u h = omega arith
-    link-once false true u h = omega arith
-    link-once false false u h = omega arith
+    link_once : (a b : Bool) (u : ℕ) → (a ≡ true → b ≡ true → ⊥) → only (a || (true && b)) u ≡ only a u + only b u
+    link_once true true u h = absurd (h refl refl)
+    link_once true false u h = omega arith
+    link_once false true u h = omega arith
+    link_once false false u h = omega arith
 
 pub leaving_once : {n : ℕ} (r : Run) (v : ℕ) → LawfulRun n r → only (eqb r.tail v || (is_link r.kind && eqb r.head v)) r.upper ≡ upper_leaving r v
 leaving_once r v h = once r.kind r.tail r.head v r.upper h.apart
@@ -432,14 +432,14 @@ entering_small v r h = subst (λ x. x ≤ r.upper) (entering_once r v h) (only_l
 -- Reading the flow of the lead of the old terminal i + 1, which stands at `lead`, counted from 0.
 module _ (d : Network) (p : Plan) (ok : Feasible (terminals_below d) p) (i : ℕ) (lt : i < point_count d)
     (lead : ℕ) (at : lead ≡ run_count d + count_to i (is_terminal d)) (e : is_terminal d (suc i) ≡ true) where
-  lead-at : lead_of d (suc i) ≡ suc lead
-  lead-at = omega (arith, ap (λ b. only b 1) e)
+  lead_at : lead_of d (suc i) ≡ suc lead
+  lead_at = omega (arith, ap (λ b. only b 1) e)
 
   pub read_terminal : (lead < length p.flows) × (nat_abs (get_or p.flows lead (pos 0)) ≡ forth (flow p (lead_of d (suc i))))
   read_terminal =
       let w : Within (point_count d) (suc i) = omega arith in (
-        omega (arith, ok.flow_count, place_in d.runs (point_count d) (is_terminal d) (terminal_lead d) (suc i) w e, lead-at),
-        subst (λ k. nat_abs (flow p k) ≡ forth (flow p (lead_of d (suc i)))) lead-at (size (flow p (lead_of d (suc i))) (forward d p ok (suc i) w e)),
+        omega (arith, ok.flow_count, place_in d.runs (point_count d) (is_terminal d) (terminal_lead d) (suc i) w e, lead_at),
+        subst (λ k. nat_abs (flow p k) ≡ forth (flow p (lead_of d (suc i)))) lead_at (size (flow p (lead_of d (suc i))) (forward d p ok (suc i) w e)),
       )
     where
       size : (f : ℤ) → back f ≡ 0 → nat_abs f ≡ forth f

@@ -1,5 +1,5 @@
 -- From the arcs' facts to the drawing's: the balance of every set of points, and the worth of the near points.
-use Rattle.std.proofs.Common.{◌≡◌, ℕ, zero, suc, ◌+◌, ◌-◌, ◌*◌, ◌%◌, ◌<◌, ◌≤◌, Bool, true, false, cond, not, ◌&&◌, ◌⊎◌, List, length, get_or, sym, refl, ap, ◌∙◌, subst, ap₂, ⊎_elim, arith}
+use Rattle.std.proofs.Common.{◌≡◌, ℕ, zero, suc, ◌+◌, ◌-◌, ◌*◌, ◌%◌, ◌<◌, ◌≤◌, Bool, true, false, cond, not, ◌&&◌, List, length, get_or, sym, refl, ap, ◌∙◌, subst, ap₂, ⊎_elim, arith}
 use Rattle.std.proofs.lemmas.Bool.{cases_lt, true≢false}
 use Rattle.drawing.specs.Counts.{sum_to, only}
 use Rattle.drawing.specs.Drawings.{Network, run_count, run}
@@ -60,12 +60,12 @@ module _ (d : Network) (source sink : ℕ) (rs : List ℕ) (total : ℕ) (sent :
       omega arith
 
   -- one run more of a set of points
-  balance-pairs : (p : ℕ → Bool) (m : ℕ) → m ≤ run_count d → outs p hs rs (2 * m) + sum_to m (λ k. only (p (run d k).tail) (carried k)) ≡ outs p hs rs₀ (2 * m) + sum_to m (λ k. only (p (run d k).head) (carried k))
+  balance_pairs : (p : ℕ → Bool) (m : ℕ) → m ≤ run_count d → outs p hs rs (2 * m) + sum_to m (λ k. only (p (run d k).tail) (carried k)) ≡ outs p hs rs₀ (2 * m) + sum_to m (λ k. only (p (run d k).head) (carried k))
   unfolding outs
-  balance-pairs p zero h = refl
-  balance-pairs p (suc k) h =
+  balance_pairs p zero h = refl
+  balance_pairs p (suc k) h =
       let kin : k < run_count d = omega arith in
-      let ih = balance-pairs p k (omega arith) in
+      let ih = balance_pairs p k (omega arith) in
       let e = outs_two p hs rs k in
       let f = outs_two p hs rs₀ k in
       let w = whole k kin in
@@ -78,7 +78,7 @@ module _ (d : Network) (source sink : ℕ) (rs : List ℕ) (total : ℕ) (sent :
   -- at each set of points what enters plus the supply is what leaves plus the delivery
   pub balance : (p : ℕ → Bool) → sum_to (run_count d) (λ k. only (p (run d k).head) (carried k)) + cond (p source) total 0 ≡ sum_to (run_count d) (λ k. only (p (run d k).tail) (carried k)) + cond (p sink) total 0
   balance p =
-      let b = balance-pairs p (run_count d) (omega arith) in
+      let b = balance_pairs p (run_count d) (omega arith) in
       let x = ap (λ (n : ℕ). outs p hs rs n) (length_heads d.runs) in
       let y = ap (λ (n : ℕ). outs p hs rs₀ n) (length_heads d.runs) in
       let q = sent.flow p in
@@ -95,12 +95,12 @@ module _ (d : Network) (source sink : ℕ) (rs : List ℕ) (near : ℕ → Bool)
   full : (a : ℕ) → a < length heads → near (tail_of heads a) ≡ true → near (head_of heads a) ≡ false → get_or rs a 0 ≡ 0
   full a h n f = ⊎_elim (λ w. absurd (true≢false (sym (s.shut a h n w) ∙ f))) (λ w. omega arith) (cases_lt 0 (get_or rs a 0))
 
-  worth-pairs : (m : ℕ) → m ≤ run_count d → sum_to m (λ k. only (near (run d k).tail && not (near (run d k).head)) (run d k).upper) + outs near heads rs (2 * m) ≡ outs near heads (room_of d.runs) (2 * m)
+  worth_pairs : (m : ℕ) → m ≤ run_count d → sum_to m (λ k. only (near (run d k).tail && not (near (run d k).head)) (run d k).upper) + outs near heads rs (2 * m) ≡ outs near heads (room_of d.runs) (2 * m)
   unfolding outs
-  worth-pairs zero h = refl
-  worth-pairs (suc k) h =
+  worth_pairs zero h = refl
+  worth_pairs (suc k) h =
       let kin : k < run_count d = omega arith in
-      let ih = worth-pairs k (omega arith) in
+      let ih = worth_pairs k (omega arith) in
       let long = length_heads d.runs in
       let ain : 2 * k < length heads = omega arith in
       let bin = mate_within (2 * k) (length heads) even ain in
@@ -119,7 +119,7 @@ module _ (d : Network) (source sink : ℕ) (rs : List ℕ) (near : ℕ → Bool)
   -- the uppers of the runs from near to far sum to the total
   pub crossed : sum_to (run_count d) (λ k. only (near (run d k).tail && not (near (run d k).head)) (run d k).upper) ≡ total
   crossed =
-      let w = worth-pairs (run_count d) (omega arith) in
+      let w = worth_pairs (run_count d) (omega arith) in
       let x = ap (λ (n : ℕ). outs near heads rs n) (length_heads d.runs) in
       let y = ap (λ (n : ℕ). outs near heads (room_of d.runs) n) (length_heads d.runs) in
       let q = s.sent.flow near in

@@ -1,5 +1,5 @@
 -- The levels of a search are layers.
-use Rattle.std.proofs.Common.{◌≡◌, ℕ, zero, suc, ◌+◌, ◌-◌, ◌<◌, ◌≤◌, Bool, true, false, cond, ◌&&◌, eqb, ltb, ◌≢◌, ◌⊎◌, List, length, get_or, set, replicate, count_by, sym, refl, ap, ◌∙◌, subst, inl, inr, ⊎_elim, arith, length-set, get_or-set_other, get_or-set_same}
+use Rattle.std.proofs.Common.{◌≡◌, ℕ, zero, suc, ◌+◌, ◌<◌, ◌≤◌, Bool, true, false, cond, ◌&&◌, eqb, ltb, ◌≢◌, ◌⊎◌, List, length, get_or, set, replicate, count_by, sym, refl, ap, ◌∙◌, subst, inl, inr, ⊎_elim, arith, length-set, get_or-set_other, get_or-set_same}
 use Rattle.std.proofs.lemmas.List.Sums.{sum_by-set, count_by-le-length}
 use Rattle.std.proofs.lemmas.Bool.{eqb-true, eqb-false, ltb-true, cases_eq, cases_lt, cond-true, cond-false, cond_both, eq-eqb, ne_eqb, and_parts, and_cases, true≢false}
 use Rattle.std.proofs.lemmas.List.{get_or_past, get_or-replicate, length-replicate}
@@ -44,9 +44,9 @@ zeros_set l i x h z pos =
     fell (zeros (set l i x)) (zeros l) _ _ e a b
 
 module _ (hs rs : List ℕ) (n : ℕ) (heads : (a : ℕ) → a < length hs → head_of hs a < n) where
-  touch-marked : (P : ℕ → Type 0) (lv k : ℕ) (l : List ℕ) (g : Bool) → 0 < lv → k < length hs → length l ≡ n → P (tail_of hs k) → Marked hs rs P lv (l, g) (touch hs rs lv k (l, g))
+  touch_marked : (P : ℕ → Type 0) (lv k : ℕ) (l : List ℕ) (g : Bool) → 0 < lv → k < length hs → length l ≡ n → P (tail_of hs k) → Marked hs rs P lv (l, g) (touch hs rs lv k (l, g))
   unfolding touch
-  touch-marked P lv k l g pos kin len p =
+  touch_marked P lv k l g pos kin len p =
       cond_both (ltb 0 (get_or rs k 0) && eqb (get_or l (head_of hs k) 0) 0) (set l (head_of hs k) lv, true) (l, g) (Marked hs rs P lv (l, g))
       (λ t.
       let q = and_parts (ltb 0 (get_or rs k 0)) (eqb (get_or l (head_of hs k) 0) 0) t in
@@ -66,53 +66,53 @@ module _ (hs rs : List ℕ) (n : ℕ) (heads : (a : ℕ) → a < length hs → h
       (λ t. marked_none hs rs P lv (l, g))
 
   -- after arc k was tried its head has a level
-  touch-covers : (lv k : ℕ) (l : List ℕ) (g : Bool) → 0 < lv → k < length hs → length l ≡ n → 0 < get_or rs k 0 → 0 < get_or (touch hs rs lv k (l, g)).0 (head_of hs k) 0
-  touch-covers lv k l g pos kin len wide =
+  touch_covers : (lv k : ℕ) (l : List ℕ) (g : Bool) → 0 < lv → k < length hs → length l ≡ n → 0 < get_or rs k 0 → 0 < get_or (touch hs rs lv k (l, g)).0 (head_of hs k) 0
+  touch_covers lv k l g pos kin len wide =
       let hin : head_of hs k < length l = let h = heads k kin in omega arith in
       elim (cases_eq (get_or l (head_of hs k) 0) 0) [
         | inl z ↦ rw (touch_yes hs rs lv k l g wide z, get_or-set_same l (head_of hs k) lv 0 hin) pos
         | inr ne ↦ rw (touch_had hs rs lv k l g ne) (omega arith)
       ]
 
-  spreads-marked : (P : ℕ → Type 0) (v lv k : ℕ) (l : List ℕ) (g : Bool) → 0 < lv → k ≤ length hs → length l ≡ n → P v → Marked hs rs P lv (l, g) (spreads hs rs v lv k (l, g))
+  spreads_marked : (P : ℕ → Type 0) (v lv k : ℕ) (l : List ℕ) (g : Bool) → 0 < lv → k ≤ length hs → length l ≡ n → P v → Marked hs rs P lv (l, g) (spreads hs rs v lv k (l, g))
   unfolding spreads
-  spreads-marked P v lv zero l g pos kin len p = marked_none hs rs P lv (l, g)
-  spreads-marked P v lv (suc k) l g pos kin len p =
+  spreads_marked P v lv zero l g pos kin len p = marked_none hs rs P lv (l, g)
+  spreads_marked P v lv (suc k) l g pos kin len p =
       let step : Marks = cond (eqb (tail_of hs k) v) (touch hs rs lv k (l, g)) (l, g) in
       let kh : k < length hs = omega arith in
       let m : Marked hs rs P lv (l, g) step =
       cond_both (eqb (tail_of hs k) v) (touch hs rs lv k (l, g)) (l, g) (Marked hs rs P lv (l, g))
-      (λ t. touch-marked P lv k l g pos kh len (subst P (sym (eqb-true (tail_of hs k) v t)) p))
+      (λ t. touch_marked P lv k l g pos kh len (subst P (sym (eqb-true (tail_of hs k) v t)) p))
       (λ t. marked_none hs rs P lv (l, g)) in
-      marked_then hs rs P lv (l, g) step _ pos m (spreads-marked P v lv k step.0 step.1 pos (omega arith) (m.size ∙ len) p)
+      marked_then hs rs P lv (l, g) step _ pos m (spreads_marked P v lv k step.0 step.1 pos (omega arith) (m.size ∙ len) p)
 
   -- the head of each open arc from v has a level then
-  spreads-covers : (v lv k : ℕ) (l : List ℕ) (g : Bool) → 0 < lv → k ≤ length hs → length l ≡ n → (a : ℕ) → a < k → tail_of hs a ≡ v → 0 < get_or rs a 0 → 0 < get_or (spreads hs rs v lv k (l, g)).0 (head_of hs a) 0
+  spreads_covers : (v lv k : ℕ) (l : List ℕ) (g : Bool) → 0 < lv → k ≤ length hs → length l ≡ n → (a : ℕ) → a < k → tail_of hs a ≡ v → 0 < get_or rs a 0 → 0 < get_or (spreads hs rs v lv k (l, g)).0 (head_of hs a) 0
   unfolding spreads
-  spreads-covers v lv zero l g pos kin len a ain tv wide = absurd (let z : ⊥ = omega arith in z)
-  spreads-covers v lv (suc k) l g pos kin len a ain tv wide =
+  spreads_covers v lv zero l g pos kin len a ain tv wide = absurd (let z : ⊥ = omega arith in z)
+  spreads_covers v lv (suc k) l g pos kin len a ain tv wide =
       let step : Marks = cond (eqb (tail_of hs k) v) (touch hs rs lv k (l, g)) (l, g) in
       let kh : k < length hs = omega arith in
       let m : Marked hs rs (λ t. t ≡ v) lv (l, g) step =
       cond_both (eqb (tail_of hs k) v) (touch hs rs lv k (l, g)) (l, g) (Marked hs rs (λ t. t ≡ v) lv (l, g))
-      (λ t. touch-marked (λ t. t ≡ v) lv k l g pos kh len (eqb-true (tail_of hs k) v t))
+      (λ t. touch_marked (λ t. t ≡ v) lv k l g pos kh len (eqb-true (tail_of hs k) v t))
       (λ t. marked_none hs rs (λ t. t ≡ v) lv (l, g)) in
       elim (cases_eq a k) [
         | inl e ↦
             let tk : tail_of hs k ≡ v = subst (λ (x : ℕ). tail_of hs x ≡ v) e tv in
             let wk : 0 < get_or rs k 0 = subst (λ (x : ℕ). 0 < get_or rs x 0) e wide in
             let st : step ≡ touch hs rs lv k (l, g) = cond-true (eqb (tail_of hs k) v) (touch hs rs lv k (l, g)) (l, g) (eq-eqb (tail_of hs k) v tk) in
-            let c : 0 < get_or step.0 (head_of hs k) 0 = rw st (touch-covers lv k l g pos kh len wk) in
-            let rest = spreads-marked (λ t. t ≡ v) v lv k step.0 step.1 pos (omega arith) (m.size ∙ len) refl in
+            let c : 0 < get_or step.0 (head_of hs k) 0 = rw st (touch_covers lv k l g pos kh len wk) in
+            let rest = spreads_marked (λ t. t ≡ v) v lv k step.0 step.1 pos (omega arith) (m.size ∙ len) refl in
             let ke = rest.kept (head_of hs k) c in
             rw e (omega arith)
-        | inr ne ↦ spreads-covers v lv k step.0 step.1 pos (omega arith) (m.size ∙ len) a (omega arith) tv wide
+        | inr ne ↦ spreads_covers v lv k step.0 step.1 pos (omega arith) (m.size ∙ len) a (omega arith) tv wide
       ]
 
   -- a point of level k in the course of a round had it before
-  visits-marked : (l₀ : List ℕ) (k v : ℕ) (s : Marks) → 0 < k → length s.0 ≡ n → Marked hs rs (λ t. get_or l₀ t 0 ≡ k) (k + 1) (l₀, false) s → Marked hs rs (λ t. get_or l₀ t 0 ≡ k) (k + 1) s (visits hs rs k v s)
+  visits_marked : (l₀ : List ℕ) (k v : ℕ) (s : Marks) → 0 < k → length s.0 ≡ n → Marked hs rs (λ t. get_or l₀ t 0 ≡ k) (k + 1) (l₀, false) s → Marked hs rs (λ t. get_or l₀ t 0 ≡ k) (k + 1) s (visits hs rs k v s)
   unfolding visits
-  visits-marked l₀ k v s pos len m =
+  visits_marked l₀ k v s pos len m =
       let P : ℕ → Type 0 = λ t. get_or l₀ t 0 ≡ k in
       let r : Marks = spreads hs rs v (k + 1) (length hs) (s.0, false) in
       cond_both (eqb (get_or s.0 v 0) k) (r.0, cond r.1 true s.1) s (Marked hs rs P (k + 1) s)
@@ -123,7 +123,7 @@ module _ (hs rs : List ℕ) (n : ℕ) (heads : (a : ℕ) → a < length hs → h
         | inl z ↦ absurd (⊎_elim (λ y. let b : ⊥ = omega arith in b) (λ y. let q = y.0 in let b : ⊥ = omega arith in b) (m.fresh v z))
         | inr ne ↦ sym (m.kept v (omega arith)) ∙ here
       ] in
-      let q = spreads-marked P v (k + 1) (length hs) s.0 false (omega arith) (omega arith) len was in
+      let q = spreads_marked P v (k + 1) (length hs) s.0 false (omega arith) (omega arith) len was in
       record {
         size = q.size;
         kept = q.kept;
@@ -135,33 +135,33 @@ module _ (hs rs : List ℕ) (n : ℕ) (heads : (a : ℕ) → a < length hs → h
       })
       (λ t. marked_none hs rs P (k + 1) s)
 
-  rounds-marked : (k v : ℕ) (l : List ℕ) → 0 < k → length l ≡ n → Marked hs rs (λ t. get_or l t 0 ≡ k) (k + 1) (l, false) (rounds hs rs k v l)
+  rounds_marked : (k v : ℕ) (l : List ℕ) → 0 < k → length l ≡ n → Marked hs rs (λ t. get_or l t 0 ≡ k) (k + 1) (l, false) (rounds hs rs k v l)
   unfolding rounds
-  rounds-marked k zero l pos len = marked_none hs rs (λ t. get_or l t 0 ≡ k) (k + 1) (l, false)
-  rounds-marked k (suc v) l pos len =
-      let m = rounds-marked k v l pos len in
-      marked_then hs rs (λ t. get_or l t 0 ≡ k) (k + 1) (l, false) (rounds hs rs k v l) _ (omega arith) m (visits-marked l k v (rounds hs rs k v l) pos (m.size ∙ len) m)
+  rounds_marked k zero l pos len = marked_none hs rs (λ t. get_or l t 0 ≡ k) (k + 1) (l, false)
+  rounds_marked k (suc v) l pos len =
+      let m = rounds_marked k v l pos len in
+      marked_then hs rs (λ t. get_or l t 0 ≡ k) (k + 1) (l, false) (rounds hs rs k v l) _ (omega arith) m (visits_marked l k v (rounds hs rs k v l) pos (m.size ∙ len) m)
 
-  visits-covers : (k v : ℕ) (s : Marks) → 0 < k → length s.0 ≡ n → get_or s.0 v 0 ≡ k → (a : ℕ) → a < length hs → tail_of hs a ≡ v → 0 < get_or rs a 0 → 0 < get_or (visits hs rs k v s).0 (head_of hs a) 0
+  visits_covers : (k v : ℕ) (s : Marks) → 0 < k → length s.0 ≡ n → get_or s.0 v 0 ≡ k → (a : ℕ) → a < length hs → tail_of hs a ≡ v → 0 < get_or rs a 0 → 0 < get_or (visits hs rs k v s).0 (head_of hs a) 0
   unfolding visits
-  visits-covers k v s pos len here a ain tv wide =
+  visits_covers k v s pos len here a ain tv wide =
       let r : Marks = spreads hs rs v (k + 1) (length hs) (s.0, false) in
       let e : visits hs rs k v s ≡ (r.0, cond r.1 true s.1) = cond-true (eqb (get_or s.0 v 0) k) _ _ (eq-eqb (get_or s.0 v 0) k here) in
-      subst (λ (x : Marks). 0 < get_or x.0 (head_of hs a) 0) (sym e) (spreads-covers v (k + 1) (length hs) s.0 false (omega arith) (omega arith) len a ain tv wide)
+      subst (λ (x : Marks). 0 < get_or x.0 (head_of hs a) 0) (sym e) (spreads_covers v (k + 1) (length hs) s.0 false (omega arith) (omega arith) len a ain tv wide)
 
-  rounds-covers : (k v : ℕ) (l : List ℕ) → 0 < k → length l ≡ n → (a : ℕ) → a < length hs → tail_of hs a < v → get_or l (tail_of hs a) 0 ≡ k → 0 < get_or rs a 0 → 0 < get_or (rounds hs rs k v l).0 (head_of hs a) 0
+  rounds_covers : (k v : ℕ) (l : List ℕ) → 0 < k → length l ≡ n → (a : ℕ) → a < length hs → tail_of hs a < v → get_or l (tail_of hs a) 0 ≡ k → 0 < get_or rs a 0 → 0 < get_or (rounds hs rs k v l).0 (head_of hs a) 0
   unfolding rounds
-  rounds-covers k zero l pos len a ain tin lk wide = absurd (let z : ⊥ = omega arith in z)
-  rounds-covers k (suc v) l pos len a ain tin lk wide =
+  rounds_covers k zero l pos len a ain tin lk wide = absurd (let z : ⊥ = omega arith in z)
+  rounds_covers k (suc v) l pos len a ain tin lk wide =
       let s : Marks = rounds hs rs k v l in
-      let m = rounds-marked k v l pos len in
+      let m = rounds_marked k v l pos len in
       elim (cases_eq (tail_of hs a) v) [
         | inl e ↦
             let here : get_or s.0 v 0 ≡ k = let q = m.kept (tail_of hs a) (omega arith) in subst (λ (x : ℕ). get_or s.0 x 0 ≡ k) e (q ∙ lk) in
-            visits-covers k v s pos (m.size ∙ len) here a ain e wide
+            visits_covers k v s pos (m.size ∙ len) here a ain e wide
         | inr ne ↦
-            let c = rounds-covers k v l pos len a ain (omega arith) lk wide in
-            let q = visits-marked l k v s pos (m.size ∙ len) m in
+            let c = rounds_covers k v l pos len a ain (omega arith) lk wide in
+            let q = visits_marked l k v s pos (m.size ∙ len) m in
             let w = q.kept (head_of hs a) c in
             omega arith
       ]
@@ -176,9 +176,9 @@ module _ (hs rs : List ℕ) (n : ℕ) (heads : (a : ℕ) → a < length hs → h
     low : (u : ℕ) → get_or l u 0 ≤ k
     shut : (a : ℕ) → a < length hs → 0 < get_or l (tail_of hs a) 0 → get_or l (tail_of hs a) 0 < k → 0 < get_or rs a 0 → (0 < get_or l (head_of hs a) 0) × (get_or l (head_of hs a) 0 ≤ get_or l (tail_of hs a) 0 + 1)
 
-  round-more : (tails : (a : ℕ) → a < length hs → tail_of hs a < n) (source k : ℕ) (l : List ℕ) → Before source k l → Before source (k + 1) (rounds hs rs k (length l) l).0
-  round-more tails source k l b =
-      let m = rounds-marked k (length l) l b.pos b.size in
+  round_more : (tails : (a : ℕ) → a < length hs → tail_of hs a < n) (source k : ℕ) (l : List ℕ) → Before source k l → Before source (k + 1) (rounds hs rs k (length l) l).0
+  round_more tails source k l b =
+      let m = rounds_marked k (length l) l b.pos b.size in
       let t : List ℕ = (rounds hs rs k (length l) l).0 in
       let kp = b.pos in
       -- a level below k + 1 was there before
@@ -221,7 +221,7 @@ module _ (hs rs : List ℕ) (n : ℕ) (heads : (a : ℕ) → a < length hs → h
             elim (cases_eq (get_or l (tail_of hs a) 0) k) [
               | inl e ↦
                   let up = lowt (head_of hs a) in
-                  (rounds-covers k (length l) l b.pos b.size a ain (let x = tails a ain in let y = b.size in omega arith) e wide, omega arith)
+                  (rounds_covers k (length l) l b.pos b.size a ain (let x = tails a ain in let y = b.size in omega arith) e wide, omega arith)
               | inr ne ↦
                   let s = b.shut a ain (omega arith) (omega arith) wide in
                   let s0 = s.0 in
@@ -232,8 +232,8 @@ module _ (hs rs : List ℕ) (n : ℕ) (heads : (a : ℕ) → a < length hs → h
       }
 
   module _ (tails : (a : ℕ) → a < length hs → tail_of hs a < n) (source sink : ℕ) where
-    layered-end : (k : ℕ) (l : List ℕ) (s : Marks) → k < 130 → Before source k l → Before source (k + 1) s.0 → Marked hs rs (λ t. get_or l t 0 ≡ k) (k + 1) (l, false) s → (s.1 && eqb (get_or s.0 sink 0) 0) ≡ false → Layered hs rs source sink s.0
-    layered-end k l s kin b c m t = record {
+    layered_end : (k : ℕ) (l : List ℕ) (s : Marks) → k < 130 → Before source k l → Before source (k + 1) s.0 → Marked hs rs (λ t. get_or l t 0 ≡ k) (k + 1) (l, false) s → (s.1 && eqb (get_or s.0 sink 0) 0) ≡ false → Layered hs rs source sink s.0
+    layered_end k l s kin b c m t = record {
       least = c.least;
       first = c.first;
       reached = c.reached;
@@ -246,32 +246,32 @@ module _ (hs rs : List ℕ) (n : ℕ) (heads : (a : ℕ) → a < length hs → h
           c.shut a ain h (omega arith) wide;
     }
 
-    searches-layered : (f k : ℕ) (l : List ℕ) → Before source k l → k + f ≤ 130 → zeros l < f → Layered hs rs source sink (searches hs rs sink f k l)
+    searches_layered : (f k : ℕ) (l : List ℕ) → Before source k l → k + f ≤ 130 → zeros l < f → Layered hs rs source sink (searches hs rs sink f k l)
     unfolding searches
-    searches-layered zero k l b kf z = absurd (let q : ⊥ = omega arith in q)
-    searches-layered (suc f) k l b kf z =
+    searches_layered zero k l b kf z = absurd (let q : ⊥ = omega arith in q)
+    searches_layered (suc f) k l b kf z =
         let s : Marks = rounds hs rs k (length l) l in
-        let m = rounds-marked k (length l) l b.pos b.size in
-        let c = round-more tails source k l b in
+        let m = rounds_marked k (length l) l b.pos b.size in
+        let c = round_more tails source k l b in
         cond_both (s.1 && eqb (get_or s.0 sink 0) 0) (searches hs rs sink f (k + 1) s.0) s.0 (Layered hs rs source sink)
         (λ t.
         let on = (and_parts s.1 (eqb (get_or s.0 sink 0) 0) t).0 in
         let fewer : zeros s.0 < zeros l = ⊎_elim (λ x. absurd (true≢false (sym on ∙ x.0))) (λ x. x.1) m.flag in
-        searches-layered f (k + 1) s.0 c (omega arith) (omega arith))
-        (λ t. layered-end k l s (omega arith) b c m t)
+        searches_layered f (k + 1) s.0 c (omega arith) (omega arith))
+        (λ t. layered_end k l s (omega arith) b c m t)
 
-    searches-size : (f k : ℕ) (l : List ℕ) → 0 < k → length l ≡ n → length (searches hs rs sink f k l) ≡ n
+    searches_size : (f k : ℕ) (l : List ℕ) → 0 < k → length l ≡ n → length (searches hs rs sink f k l) ≡ n
     unfolding searches
-    searches-size zero k l pos len = len
-    searches-size (suc f) k l pos len =
+    searches_size zero k l pos len = len
+    searches_size (suc f) k l pos len =
         let s : Marks = rounds hs rs k (length l) l in
-        let m = rounds-marked k (length l) l pos len in
+        let m = rounds_marked k (length l) l pos len in
         cond_both (s.1 && eqb (get_or s.0 sink 0) 0) (searches hs rs sink f (k + 1) s.0) s.0 (λ (x : List ℕ). length x ≡ n)
-        (λ t. searches-size f (k + 1) s.0 (omega arith) (m.size ∙ len))
+        (λ t. searches_size f (k + 1) s.0 (omega arith) (m.size ∙ len))
         (λ t. m.size ∙ len)
 
     pub levels_size : length (levels hs rs n source sink) ≡ n
-    levels_size = searches-size 129 1 (set (replicate n 0) source 1) (omega arith) (length-set (replicate n 0) source 1 ∙ length-replicate {A = ℕ} n 0)
+    levels_size = searches_size 129 1 (set (replicate n 0) source 1) (omega arith) (length-set (replicate n 0) source 1 ∙ length-replicate {A = ℕ} n 0)
 
     pub levels_layered : n ≤ 129 → source < n → Layered hs rs source sink (levels hs rs n source sink)
     levels_layered small sin =
@@ -296,4 +296,4 @@ module _ (hs rs : List ℕ) (n : ℕ) (heads : (a : ℕ) → a < length hs → h
           low = λ u. ⊎_elim (λ h. let o = one u h in omega arith) (λ h. omega arith) (cases_lt 0 (get_or l u 0));
           shut = λ a ain h c wide. absurd (let q : ⊥ = omega arith in q);
         } in
-        searches-layered 129 1 l b (omega arith) (omega arith)
+        searches_layered 129 1 l b (omega arith) (omega arith)

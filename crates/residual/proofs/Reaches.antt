@@ -38,8 +38,8 @@ module _ (d : Network) (source sink : ℕ) (rs : List ℕ) (total : ℕ) (sent :
   abbrev fs : List ℤ
   fs = flows_in (run_count d) rs
 
-  flow-at : (k : ℕ) → k < run_count d → nth fs (suc k) (pos 0) ≡ pos (get_or rs (mate_of (2 * k)) 0)
-  flow-at k h = nth_made (λ k. pos (get_or rs (2 * k - 1) 0)) (run_count d) (suc k) (pos 0) (omega arith) ∙ ap pos (carried_is d source sink rs total sent k)
+  flow_at : (k : ℕ) → k < run_count d → nth fs (suc k) (pos 0) ≡ pos (get_or rs (mate_of (2 * k)) 0)
+  flow_at k h = nth_made (λ k. pos (get_or rs (2 * k - 1) 0)) (run_count d) (suc k) (pos 0) (omega arith) ∙ ap pos (carried_is d source sink rs total sent k)
 
   -- the two arcs of run k + 1
   split : (k : ℕ) → k < run_count d → get_or rs (2 * k) 0 + get_or rs (mate_of (2 * k)) 0 ≡ (run d (suc k)).upper
@@ -48,8 +48,8 @@ module _ (d : Network) (source sink : ℕ) (rs : List ℕ) (total : ℕ) (sent :
   back_head : (k : ℕ) → k < run_count d → head_of hs (2 * k + 1) ≡ (run d (suc k)).tail
   back_head k h = ap (λ (x : ℕ). get_or hs x 0) (sym (mate_double k)) ∙ tail_of_lem d.runs k h
 
-  back-tail : (k : ℕ) → k < run_count d → tail_of hs (2 * k + 1) ≡ (run d (suc k)).head
-  back-tail k h = ap (λ (x : ℕ). tail_of hs x) (sym (mate_double k)) ∙ ap (λ (x : ℕ). get_or hs x 0) (mate_mate (2 * k)) ∙ head_of_lem d.runs k h
+  back_tail : (k : ℕ) → k < run_count d → tail_of hs (2 * k + 1) ≡ (run d (suc k)).head
+  back_tail k h = ap (λ (x : ℕ). tail_of hs x) (sym (mate_double k)) ∙ ap (λ (x : ℕ). get_or hs x 0) (mate_mate (2 * k)) ∙ head_of_lem d.runs k h
 
   -- an open arc is a step
   pub step_along : (a : ℕ) → a < length hs → 0 < get_or rs a 0 → Forward d fs (tail_of hs a) (head_of hs a) ⊎ Backward d fs (tail_of hs a) (head_of hs a)
@@ -61,48 +61,48 @@ module _ (d : Network) (source sink : ℕ) (rs : List ℕ) (total : ℕ) (sent :
         within = omega arith;
         from = sym (tail_of_lem d.runs k q);
         to = sym (head_of_lem d.runs k q);
-        more = below (nth fs (suc k) (pos 0)) (get_or rs (mate_of (2 * k)) 0) (run d (suc k)).upper (flow-at k q) (let e = split k q in omega arith);
+        more = below (nth fs (suc k) (pos 0)) (get_or rs (mate_of (2 * k)) 0) (run d (suc k)).upper (flow_at k q) (let e = split k q in omega arith);
       })
       (λ k q wide. inr record {
         number = suc k;
         within = omega arith;
-        from = sym (back-tail k q);
+        from = sym (back_tail k q);
         to = sym (back_head k q);
-        more = above (nth fs (suc k) (pos 0)) (get_or rs (mate_of (2 * k)) 0) (flow-at k q) (let e = ap (λ (x : ℕ). get_or rs x 0) (mate_double k) in omega arith);
+        more = above (nth fs (suc k) (pos 0)) (get_or rs (mate_of (2 * k)) 0) (flow_at k q) (let e = ap (λ (x : ℕ). get_or rs x 0) (mate_double k) in omega arith);
       })
       a (omega arith)
 
   -- near points stay near along a step
   module _ (near : ℕ → Bool) (shut : (a : ℕ) → a < length hs → near (tail_of hs a) ≡ true → 0 < get_or rs a 0 → near (head_of hs a) ≡ true) where
-    forward-near : (u v : ℕ) → near u ≡ true → Forward d fs u v → near v ≡ true
-    forward-near u v n f = go f.number f.within f.from f.to f.more
+    forward_near : (u v : ℕ) → near u ≡ true → Forward d fs u v → near v ≡ true
+    forward_near u v n f = go f.number f.within f.from f.to f.more
       where
         go : (k : ℕ) → Within (run_count d) k → (run d k).tail ≡ u → (run d k).head ≡ v → nth fs k (pos 0) <ℤ pos (run d k).upper → near v ≡ true
         go zero w from to more = absurd (let z : ⊥ = omega arith in z)
         go (suc k) w from to more =
             let q : k < run_count d = omega arith in
             let long = length_heads d.runs in
-            let less = below_from (nth fs (suc k) (pos 0)) (get_or rs (mate_of (2 * k)) 0) (run d (suc k)).upper (flow-at k q) more in
+            let less = below_from (nth fs (suc k) (pos 0)) (get_or rs (mate_of (2 * k)) 0) (run d (suc k)).upper (flow_at k q) more in
             let e = split k q in
             sym (ap near (head_of_lem d.runs k q ∙ to)) ∙ shut (2 * k) (omega arith) (ap near (tail_of_lem d.runs k q ∙ from) ∙ n) (omega arith)
 
-    backward-near : (u v : ℕ) → near u ≡ true → Backward d fs u v → near v ≡ true
-    backward-near u v n f = go f.number f.within f.from f.to f.more
+    backward_near : (u v : ℕ) → near u ≡ true → Backward d fs u v → near v ≡ true
+    backward_near u v n f = go f.number f.within f.from f.to f.more
       where
         go : (k : ℕ) → Within (run_count d) k → (run d k).head ≡ u → (run d k).tail ≡ v → pos 0 <ℤ nth fs k (pos 0) → near v ≡ true
         go zero w from to more = absurd (let z : ⊥ = omega arith in z)
         go (suc k) w from to more =
             let q : k < run_count d = omega arith in
             let long = length_heads d.runs in
-            let some = above_from (nth fs (suc k) (pos 0)) (get_or rs (mate_of (2 * k)) 0) (flow-at k q) more in
+            let some = above_from (nth fs (suc k) (pos 0)) (get_or rs (mate_of (2 * k)) 0) (flow_at k q) more in
             let e = ap (λ (x : ℕ). get_or rs x 0) (mate_double k) in
-            sym (ap near (back_head k q ∙ to)) ∙ shut (2 * k + 1) (omega arith) (ap near (back-tail k q ∙ from) ∙ n) (omega arith)
+            sym (ap near (back_head k q ∙ to)) ∙ shut (2 * k + 1) (omega arith) (ap near (back_tail k q ∙ from) ∙ n) (omega arith)
 
     pub steps_near : (j u v : ℕ) → near u ≡ true → Steps d fs j u v → near v ≡ true
     steps_near zero u v n s = sym (ap near s) ∙ n
     steps_near (suc j) u v n s =
         let m = steps_near j u s.0 n s.1 in
-        ⊎_elim (forward-near s.0 v m) (backward-near s.0 v m) s.2
+        ⊎_elim (forward_near s.0 v m) (backward_near s.0 v m) s.2
 
   -- a point of level j + 1 is j steps from the source
   pub level_steps : (l : List ℕ) → Layered hs rs source sink l → (j u : ℕ) → get_or l u 0 ≡ suc j → Steps d fs j source u
@@ -128,17 +128,17 @@ module _ (d : Network) (p : Plain d) (rs l : List ℕ) (total : ℕ) (s : Solved
   abbrev flows : List ℤ
   flows = flows_in (run_count d) rs
 
-  near-is : (v : ℕ) → Within (point_count d) v → is_near (label (labels_by (point_count d) near) v) ≡ near v
-  near-is v w = ap is_near (nth_made (λ u. cond (near u) Near Far) (point_count d) v _ w) ∙ near_label (near v)
+  near_is : (v : ℕ) → Within (point_count d) v → is_near (label (labels_by (point_count d) near) v) ≡ near v
+  near_is v w = ap is_near (nth_made (λ u. cond (near u) Near Far) (point_count d) v _ w) ∙ near_label (near v)
 
-  path-to : (v : ℕ) → near v ≡ true → ResidualPath d flows (rack_of d) v
-  path-to v n =
+  path_to : (v : ℕ) → near v ≡ true → ResidualPath d flows (rack_of d) v
+  path_to v n =
       let h = ltb-true 0 (get_or l v 0) n in
       record { count = get_or l v 0 - 1; steps = level_steps d (rack_of d) (bar_of d) rs total s.sent l la (get_or l v 0 - 1) v (omega arith) }
 
   pub near_by_paths : NearByPaths d (answer_in d rs near total)
   near_by_paths r v rin isr vin =
       let e : r ≡ rack_of d = (rack d p).alone r rin isr in (
-        λ h. subst (λ (u : ℕ). ResidualPath d flows u v) (sym e) (path-to v (sym (near-is v vin) ∙ h)),
-        λ h. near-is v vin ∙ steps_near d (rack_of d) (bar_of d) rs total s.sent near s.shut h.count r v (ap near e ∙ s.near_source) h.steps,
+        λ h. subst (λ (u : ℕ). ResidualPath d flows u v) (sym e) (path_to v (sym (near_is v vin) ∙ h)),
+        λ h. near_is v vin ∙ steps_near d (rack_of d) (bar_of d) rs total s.sent near s.shut h.count r v (ap near e ∙ s.near_source) h.steps,
       )

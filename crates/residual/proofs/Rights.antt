@@ -1,5 +1,5 @@
 -- The answer that stands in the arcs is right.
-use Rattle.std.proofs.Common.{◌≡◌, ℕ, zero, suc, ◌+◌, ◌-◌, ◌*◌, ◌≤◌, Bool, true, false, cond, not, ◌&&◌, eqb, ◌⊎◌, List, map, get_or, pos, ◌-ℤ◌, is_some, Some, None, Option, sym, refl, ap, ◌∙◌, subst, ap₂, ⊎_elim, arith}
+use Rattle.std.proofs.Common.{◌≡◌, ℕ, zero, suc, ◌+◌, ◌-◌, ◌*◌, ◌≤◌, Bool, true, false, cond, not, ◌&&◌, eqb, List, map, get_or, pos, ◌-ℤ◌, is_some, Some, None, Option, sym, refl, ap, ◌∙◌, subst, ap₂, ⊎_elim, arith}
 use Rattle.std.specs.List.{range_with_len}
 use Rattle.std.proofs.lemmas.Int.{ints}
 use Rattle.std.proofs.lemmas.List.FromFn.{length-map-range_with_len, get_or-map-range_with_len}
@@ -74,37 +74,37 @@ module _ (d : Network) (p : Plain d) (rs : List ℕ) (near : ℕ → Bool) (tota
   abbrev x : ℕ → ℕ
   x k = get_or rs (2 * k - 1) 0
 
-  flow-is : (k : ℕ) → Within (run_count d) k → flow plan k ≡ pos (x k)
-  flow-is k w = nth_made (λ k. pos (get_or rs (2 * k - 1) 0)) (run_count d) k (pos 0) w
+  flow_is : (k : ℕ) → Within (run_count d) k → flow plan k ≡ pos (x k)
+  flow_is k w = nth_made (λ k. pos (get_or rs (2 * k - 1) 0)) (run_count d) k (pos 0) w
 
-  supply-is : (v : ℕ) → Within (point_count d) v → supply plan v ≡ only (is_rack (point d v).mark) total
-  supply-is v w = nth_made (λ v. only (is_rack (point d v).mark) total) (point_count d) v 0 w
+  supply_is : (v : ℕ) → Within (point_count d) v → supply plan v ≡ only (is_rack (point d v).mark) total
+  supply_is v w = nth_made (λ v. only (is_rack (point d v).mark) total) (point_count d) v 0 w
 
-  delivery-is : (v : ℕ) → Within (point_count d) v → delivery plan v ≡ only (is_bar (point d v).mark) total
-  delivery-is v w = nth_made (λ v. only (is_bar (point d v).mark) total) (point_count d) v 0 w
+  delivery_is : (v : ℕ) → Within (point_count d) v → delivery plan v ≡ only (is_bar (point d v).mark) total
+  delivery_is v w = nth_made (λ v. only (is_bar (point d v).mark) total) (point_count d) v 0 w
 
   label_is : (v : ℕ) → Within (point_count d) v → label ls v ≡ cond (near v) Near Far
   label_is v w = nth_made (λ v. cond (near v) Near Far) (point_count d) v _ w
 
-  below-upper : (k : ℕ) → Within (run_count d) k → x k ≤ (run d k).upper
-  below-upper zero w = absurd (let z : ⊥ = omega arith in z)
-  below-upper (suc k) w = let e = whole d (rack_of d) (bar_of d) rs total s.sent k (omega arith) in omega arith
+  below_upper : (k : ℕ) → Within (run_count d) k → x k ≤ (run d k).upper
+  below_upper zero w = absurd (let z : ⊥ = omega arith in z)
+  below_upper (suc k) w = let e = whole d (rack_of d) (bar_of d) rs total s.sent k (omega arith) in omega arith
 
-  entering-is : (v : ℕ) → entering d plan v ≡ sum_to (run_count d) (λ k. only (eqb (run d k).head v) (x k))
-  entering-is v = sum_same (run_count d) _ _ (λ k w. ap (λ f. brings (run d k) f v) (flow-is k w) ∙ only_brought (eqb (run d k).head v) (eqb (run d k).tail v) (x k))
+  entering_is : (v : ℕ) → entering d plan v ≡ sum_to (run_count d) (λ k. only (eqb (run d k).head v) (x k))
+  entering_is v = sum_same (run_count d) _ _ (λ k w. ap (λ f. brings (run d k) f v) (flow_is k w) ∙ only_brought (eqb (run d k).head v) (eqb (run d k).tail v) (x k))
 
-  leaving-is : (v : ℕ) → leaving d plan v ≡ sum_to (run_count d) (λ k. only (eqb (run d k).tail v) (x k))
-  leaving-is v = sum_same (run_count d) _ _ (λ k w. ap (λ f. takes (run d k) f v) (flow-is k w) ∙ only_brought (eqb (run d k).tail v) (eqb (run d k).head v) (x k))
+  leaving_is : (v : ℕ) → leaving d plan v ≡ sum_to (run_count d) (λ k. only (eqb (run d k).tail v) (x k))
+  leaving_is v = sum_same (run_count d) _ _ (λ k w. ap (λ f. takes (run d k) f v) (flow_is k w) ∙ only_brought (eqb (run d k).tail v) (eqb (run d k).head v) (x k))
 
   balanced : (v : ℕ) → Within (point_count d) v → entering d plan v + supply plan v ≡ leaving d plan v + delivery plan v
   balanced v w =
       let r = rack d p in
       let b = bar d p in
       let e = balance d (rack_of d) (bar_of d) rs total s.sent (λ u. eqb u v) in
-      let i = entering-is v in
-      let o = leaving-is v in
-      let su = supply-is v w ∙ at_one (rack_of d) r.passes r.alone v total w in
-      let de = delivery-is v w ∙ at_one (bar_of d) b.passes b.alone v total w in
+      let i = entering_is v in
+      let o = leaving_is v in
+      let su = supply_is v w ∙ at_one (rack_of d) r.passes r.alone v total w in
+      let de = delivery_is v w ∙ at_one (bar_of d) b.passes b.alone v total w in
       omega (arith, e, i, o, su, de)
 
   pub feasible : Feasible d plan
@@ -112,9 +112,9 @@ module _ (d : Network) (p : Plain d) (rs : List ℕ) (near : ℕ → Bool) (tota
     flow_count = length-map-range_with_len (λ k. pos (get_or rs (2 * k - 1) 0)) 1 (run_count d);
     supply_count = length-map-range_with_len (λ v. only (is_rack (point d v).mark) total) 1 (point_count d);
     delivery_count = length-map-range_with_len (λ v. only (is_bar (point d v).mark) total) 1 (point_count d);
-    racks_supply = λ v w h. supply-is v w ∙ ap (λ b. only b total) h;
-    bars_deliver = λ v w h. delivery-is v w ∙ ap (λ b. only b total) h;
-    in_range = λ k w. subst (InRange (run d k).kind (run d k).lower (run d k).upper) (sym (flow-is k w)) (lead_range (run d k).kind (run d k).lower (run d k).upper (x k) (p.lead k w) (p.no_lower k w) (below-upper k w));
+    racks_supply = λ v w h. supply_is v w ∙ ap (λ b. only b total) h;
+    bars_deliver = λ v w h. delivery_is v w ∙ ap (λ b. only b total) h;
+    in_range = λ k w. subst (InRange (run d k).kind (run d k).lower (run d k).upper) (sym (flow_is k w)) (lead_range (run d k).kind (run d k).lower (run d k).upper (x k) (p.lead k w) (p.no_lower k w) (below_upper k w));
     balanced = balanced;
     limited = λ v w. unlimited (point d v).limit _ (p.no_limit v w);
   }
@@ -122,7 +122,7 @@ module _ (d : Network) (p : Plain d) (rs : List ℕ) (near : ℕ → Bool) (tota
   total_is : total ≡ total_of plan
   total_is =
       sym (ap (λ n. sum_to n (supply plan)) (length-map-range_with_len (λ v. only (is_rack (point d v).mark) total) 1 (point_count d))
-      ∙ sum_same (point_count d) (supply plan) (λ v. only (is_rack (point d v).mark) total) supply-is
+      ∙ sum_same (point_count d) (supply plan) (λ v. only (is_rack (point d v).mark) total) supply_is
       ∙ (rack d p).sum total)
 
   labelled : Labelling d ls
@@ -131,20 +131,20 @@ module _ (d : Network) (p : Plain d) (rs : List ℕ) (near : ℕ → Bool) (tota
     tight_limited = λ v w h. absurd (true≢false (sym h ∙ ap is_tight (label_is v w) ∙ never_tight (near v)));
   }
 
-  not-far : (b : Bool) (l : Label) → (b ≡ true → l ≡ Near) → (b && is_far l) ≡ false
-  not-far true l h = ap is_far (h refl)
-  not-far false l h = refl
+  not_far : (b : Bool) (l : Label) → (b ≡ true → l ≡ Near) → (b && is_far l) ≡ false
+  not_far true l h = ap is_far (h refl)
+  not_far false l h = refl
 
-  not-near : (b : Bool) (l : Label) → (b ≡ true → l ≡ Far) → (b && is_near l) ≡ false
-  not-near true l h = ap is_near (h refl)
-  not-near false l h = refl
+  not_near : (b : Bool) (l : Label) → (b ≡ true → l ≡ Far) → (b && is_near l) ≡ false
+  not_near true l h = ap is_near (h refl)
+  not_near false l h = refl
 
   cut : Cut d ls
   cut = record {
     labelled = labelled;
-    no_far_rack = none_from (point_count d) (λ v. is_rack (point d v).mark && is_far (label ls v)) (λ v w. not-far (is_rack (point d v).mark) (label ls v)
+    no_far_rack = none_from (point_count d) (λ v. is_rack (point d v).mark && is_far (label ls v)) (λ v w. not_far (is_rack (point d v).mark) (label ls v)
         (λ h. label_is v w ∙ ap (λ b. cond b Near Far) (ap near ((rack d p).alone v w h) ∙ s.near_source)));
-    no_near_bar = none_from (point_count d) (λ v. is_bar (point d v).mark && is_near (label ls v)) (λ v w. not-near (is_bar (point d v).mark) (label ls v)
+    no_near_bar = none_from (point_count d) (λ v. is_bar (point d v).mark && is_near (label ls v)) (λ v w. not_near (is_bar (point d v).mark) (label ls v)
         (λ h. label_is v w ∙ ap (λ b. cond b Near Far) (ap near ((bar d p).alone v w h) ∙ s.far_sink)));
   }
 
@@ -157,12 +157,12 @@ module _ (d : Network) (p : Plain d) (rs : List ℕ) (near : ℕ → Bool) (tota
       ∙ lead_adds (run d k).kind (near (run d k).tail) (near (run d k).head) (run d k).upper (p.lead k w))
       ∙ crossed d (rack_of d) (bar_of d) rs near total s
 
-  throttled-is : throttled d ls ≡ 0
-  throttled-is = sum_none (point_count d) _ (λ v w. ap (λ b. only b (limit_of (point d v).limit)) (ap is_tight (label_is v w) ∙ never_tight (near v)))
+  throttled_is : throttled d ls ≡ 0
+  throttled_is = sum_none (point_count d) _ (λ v w. ap (λ b. only b (limit_of (point d v).limit)) (ap is_tight (label_is v w) ∙ never_tight (near v)))
 
-  forced-is : forced d ls ≡ 0
-  forced-is = sum_none (run_count d) _ (λ k w.
+  forced_is : forced d ls ≡ 0
+  forced_is = sum_none (run_count d) _ (λ k w.
       ap (deducts (run d k).kind (label ls (run d k).tail) (label ls (run d k).head)) (p.no_lower k w) ∙ nothing_deducted (run d k).kind (label ls (run d k).tail) (label ls (run d k).head))
 
   pub right : Right d (answer_in d rs near total)
-  right = (feasible, total_is, cut, plain_worth (crossing d ls) (throttled d ls) (forced d ls) total crossing_is throttled-is forced-is)
+  right = (feasible, total_is, cut, plain_worth (crossing d ls) (throttled d ls) (forced d ls) total crossing_is throttled_is forced_is)

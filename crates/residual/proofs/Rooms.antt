@@ -1,5 +1,5 @@
 -- What the arcs of a plain drawing can carry at first.
-use Rattle.std.proofs.Common.{◌≡◌, ℕ, zero, suc, ◌+◌, ◌-◌, ◌*◌, ◌%◌, ◌<◌, ◌≤◌, Bool, cond, ◌⊎◌, length, get_or, ap, ◌∙◌, ⊎_elim, arith}
+use Rattle.std.proofs.Common.{◌≡◌, ℕ, zero, suc, ◌+◌, ◌-◌, ◌*◌, ◌%◌, ◌<◌, ◌≤◌, Bool, cond, length, get_or, ap, ◌∙◌, ⊎_elim, arith}
 use Rattle.std.proofs.lemmas.Bool.{cases_eq, cond_both}
 use Rattle.drawing.specs.Counts.{Within, sum_to}
 use Rattle.drawing.specs.Drawings.{Network, point_count, run_count, run}
@@ -30,19 +30,19 @@ module _ (d : Network) (p : Plain d) where
   uppers : sum_to (run_count d) (λ k. (run d k).upper) ≤ 1800000000
   uppers = let u = p.few_units in omega arith
 
-  upper-le : (k : ℕ) → k < run_count d → (run d (suc k)).upper ≤ 1800000000
-  upper-le k h = let t = term_le (run_count d) (λ k. (run d k).upper) (suc k) (omega arith) in let u = uppers in omega arith
+  upper_le : (k : ℕ) → k < run_count d → (run d (suc k)).upper ≤ 1800000000
+  upper_le k h = let t = term_le (run_count d) (λ k. (run d k).upper) (suc k) (omega arith) in let u = uppers in omega arith
 
   pub bounded : Bounded (room_of d.runs)
   bounded = record {
     bound = λ a h.
         let long = length_room d.runs in
         each_arc (λ b. get_or (room_of d.runs) b 0 + get_or (room_of d.runs) (mate_of b) 0 ≤ 1800000000) (run_count d)
-        (λ k q. let f = room_forth d.runs k q in let b = room_back d.runs k q in let u = upper-le k q in omega arith)
+        (λ k q. let f = room_forth d.runs k q in let b = room_back d.runs k q in let u = upper_le k q in omega arith)
         (λ k q.
         let f = room_forth d.runs k q in
         let b = room_back d.runs k q in
-        let u = upper-le k q in
+        let u = upper_le k q in
         let here = ap (λ (x : ℕ). get_or (room_of d.runs) x 0) (mate_double k) in
         let odd : (2 * k + 1) % 2 ≡ 1 = omega arith in
         let back : 2 * k + 1 - 1 ≡ 2 * k = omega arith in
@@ -51,14 +51,14 @@ module _ (d : Network) (p : Plain d) where
         a (omega arith);
   }
 
-  outs-le : (s : ℕ → Bool) (k : ℕ) → k ≤ run_count d → outs s (heads_of d.runs) (room_of d.runs) (2 * k) ≤ sum_to k (λ j. (run d j).upper)
+  outs_le : (s : ℕ → Bool) (k : ℕ) → k ≤ run_count d → outs s (heads_of d.runs) (room_of d.runs) (2 * k) ≤ sum_to k (λ j. (run d j).upper)
   unfolding outs
-  outs-le s zero h = omega arith
-  outs-le s (suc k) h =
+  outs_le s zero h = omega arith
+  outs_le s (suc k) h =
       let hs = heads_of d.runs in
       let rs = room_of d.runs in
       let q : k < run_count d = omega arith in
-      let ih = outs-le s k (omega arith) in
+      let ih = outs_le s k (omega arith) in
       let e = outs_two s hs rs k in
       let f = room_forth d.runs k q in
       let b = room_back d.runs k q in
@@ -70,6 +70,6 @@ module _ (d : Network) (p : Plain d) where
   pub outs_few : (s : ℕ → Bool) → outs s (heads_of d.runs) (room_of d.runs) (length (heads_of d.runs)) ≤ 1800000000
   outs_few s =
       let l = ap (λ (n : ℕ). outs s (heads_of d.runs) (room_of d.runs) n) (length_heads d.runs) in
-      let o = outs-le s (run_count d) (omega arith) in
+      let o = outs_le s (run_count d) (omega arith) in
       let u = uppers in
       omega (arith, l, o, u)

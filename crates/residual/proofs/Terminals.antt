@@ -1,5 +1,5 @@
 -- What a carried drawing is, and its one rack and one bar.
-use Rattle.std.proofs.Common.{◌≡◌, ℕ, zero, suc, Bool, true, false, not, ◌&&◌, ◌||◌, eqb, ltb, ◌⊎◌, is_some, sym, refl, ap, ◌∙◌, ⊎_elim, arith}
+use Rattle.std.proofs.Common.{◌≡◌, ℕ, zero, suc, Bool, true, false, not, ◌&&◌, ◌||◌, eqb, ltb, is_some, sym, refl, ap, ◌∙◌, ⊎_elim, arith}
 use Rattle.std.proofs.lemmas.Bool.{cases_Bool, cases_eq, cond-true, cond-false, true≢false}
 use Rattle.std.proofs.lemmas.Bool.Decides.{nat_tests}
 use Rattle.drawing.specs.declared.Feature.TheVariants.{LowerBounds, Links, Limits, Terminals}
@@ -56,12 +56,12 @@ one_last n t b e =
     record {
       within = rw here (omega arith);
       passes = rw here b;
-      alone = λ v w h. here-only v w h ∙ sym here;
+      alone = λ v w h. here_only v w h ∙ sym here;
       sum = λ x. omega (arith, sum_unmet n x t e, ap (λ c. only c x) b);
     }
   where
-    here-only : (v : ℕ) → Within (suc n) v → t v ≡ true → v ≡ suc n
-    here-only v w h =
+    here_only : (v : ℕ) → Within (suc n) v → t v ≡ true → v ≡ suc n
+    here_only v w h =
         ⊎_elim (λ (q : v ≡ suc n). q) (λ (q : v ≡ suc n → ⊥). absurd (true≢false (sym h ∙ count_none n t e v (omega arith)))) (cases_eq v (suc n))
 
 one_before : (n : ℕ) (t : ℕ → Bool) → t (suc n) ≡ false → One n t → One (suc n) t
@@ -71,12 +71,12 @@ one_before n t b o =
     record {
       within = rw here (earlier o.within);
       passes = rw here o.passes;
-      alone = λ v w h. before-only v w h ∙ sym here;
+      alone = λ v w h. before_only v w h ∙ sym here;
       sum = λ x. omega (arith, o.sum x, ap (λ c. only c x) b);
     }
   where
-    before-only : (v : ℕ) → Within (suc n) v → t v ≡ true → v ≡ last_to n t
-    before-only v w h =
+    before_only : (v : ℕ) → Within (suc n) v → t v ≡ true → v ≡ last_to n t
+    before_only v w h =
         ⊎_elim (λ (q : v ≡ suc n). absurd (true≢false (sym h ∙ ap t q ∙ b))) (λ (q : v ≡ suc n → ⊥). o.alone v (omega arith) h) (cases_eq v (suc n))
 
 pub one : (n : ℕ) (t : ℕ → Bool) → count_to n t ≡ 1 → One n t

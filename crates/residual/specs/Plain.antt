@@ -2,7 +2,7 @@
 use Rattle.std.specs.Prelude.{◌≡◌, ℕ, zero, suc, ◌≤◌, Bool, false, cond, is_some}
 use Rattle.drawing.specs.declared.Statements.{Statements}
 use Rattle.drawing.specs.Counts.{Within}
-use Rattle.drawing.specs.Drawings.{Network, Lawful, point_count, run_count, point, run, is_rack, is_bar, is_link, rack_count, bar_count, units as unitsOf}
+use Rattle.drawing.specs.Drawings.{Network, Lawful, point_count, run_count, point, run, is_rack, is_bar, is_link, rack_count, bar_count, units as units_of}
 
 -- no to all four, and the highest numbers
 abbrev pub plain_statements : Statements
@@ -13,7 +13,7 @@ pub record Plain (d : Network) : Type 0 where
   pub lawful : Lawful d
   pub few_points : point_count d ≤ 128
   pub few_runs : run_count d ≤ 1024
-  pub few_units : unitsOf d ≤ 1800000000
+  pub few_units : units_of d ≤ 1800000000
   pub lead : (k : ℕ) → Within (run_count d) k → is_link (run d k).kind ≡ false
   pub no_lower : (k : ℕ) → Within (run_count d) k → (run d k).lower ≡ 0
   pub no_limit : (v : ℕ) → Within (point_count d) v → is_some (point d v).limit ≡ false

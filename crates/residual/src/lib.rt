@@ -2,6 +2,8 @@
 //
 // Points are numbered as in the drawing, from 1; place 0 of a list by points is not used.
 // Arc 2k is run k + 1 forward and arc 2k + 1 the same run backward.
+#![tactic(auto)]
+
 mod laying;
 mod memory;
 mod net;

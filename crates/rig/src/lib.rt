@@ -1,4 +1,6 @@
 // A rig: its drawing, its standing, and the calls by which it is changed, solved and asked.
+#![tactic(auto)]
+
 pub mod lists;
 pub mod rig;
 

@@ -13,9 +13,9 @@ use std::alloc::{AllocError, Global};
 impl Rig {
     // One call of a list: the standing and the call together decide what happens.
     pub fn perform<S: Solver>(&mut self, call: &mut Call<S>) -> Told
-        ensures held { ledger_of self.new ≡ next (ledger_of self.old) (request states answer call.old) }
-        ensures told { reply result ≡ says (ledger_of self.old) (request states answer call.old) }
-        ensures left { request states answer call.new ≡ spent (ledger_of self.old) (request states answer call.old) }
+        ensures held { ledger_of self.new ≡ next (ledger_of self.old) (request S.states S.answer call.old) }
+        ensures told { reply result ≡ says (ledger_of self.old) (request S.states S.answer call.old) }
+        ensures left { request S.states S.answer call.new ≡ spent (ledger_of self.old) (request S.states S.answer call.old) }
     {
         match (self.standing, call) {
             (_, Call::Mark(v, code)) => return Told::Done(self.mark(*v, *code)),
@@ -52,7 +52,7 @@ pub fn play<S: Solver>(
     rig: &mut Rig,
     calls: &mut [Call<S>],
 ) -> Result<Vec<Told>, AllocError>
-    ensures { MatchResult result (λ told. Law (ledger_of rig.old) (map (request states answer) calls.old) (map reply told.items) (map (request states answer) calls.new) (ledger_of rig.new)) (λ _. (ledger_of rig.new ≡ ledger_of rig.old) × (calls.new ≡ calls.old)) }
+    ensures { MatchResult result (λ told. Law (ledger_of rig.old) (map (request S.states S.answer) calls.old) (map reply told.items) (map (request S.states S.answer) calls.new) (ledger_of rig.new)) (λ _. (ledger_of rig.new ≡ ledger_of rig.old) × (calls.new ≡ calls.old)) }
 {
     let mut told = Vec::with_capacity(heap, calls.len())?;
     for call in calls.iter_mut() {

@@ -5,7 +5,7 @@ use Rattle.std.proofs.lemmas.Bool.{cond_below, cond_above}
 use Rattle.drawing.specs.declared.Point.{Point}
 use Rattle.drawing.specs.declared.Refusal.{Refusal}
 use Rattle.drawing.specs.declared.Refusal.TheVariants.{LineOrder}
-use Rattle.drawing.specs.Counts.{sum_to, count_to, only, nth}
+use Rattle.drawing.specs.Counts.{sum_to, count_to, nth}
 use Rattle.drawing.specs.Drawings.{Network, point_count, point, no_point}
 use Rattle.rig_drawing.specs.Changes.{check, answered, held_after}
 use Rattle.rig_lines.specs.declared.Role.{Role}

@@ -1,4 +1,6 @@
 // A rig that is being read: what a text's lines have made of it so far.
+#![tactic(auto)]
+
 mod counting;
 mod following;
 pub mod taking;

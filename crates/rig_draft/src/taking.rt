@@ -3,7 +3,7 @@ ghost use Rattle.std.specs.Prelude.{◌≡◌, is_some, IfOk};
 ghost use Rattle.drawing.specs.Records.{network};
 ghost use Rattle.rig_drawing.specs.Changes.{answered, held_after, plain_rig};
 ghost use Rattle.reading.specs.Reading.{unheaded, headed, head_refusal, begun, step, finished};
-ghost use Rattle.rig_draft.specs.Drafts.{progress, told as toldOf, left};
+ghost use Rattle.rig_draft.specs.Drafts.{progress, told as told_of, left};
 
 use crate::{Draft, Head};
 use drawing::Refusal;
@@ -38,7 +38,7 @@ impl Draft {
     // A line before the head.
     fn first(&mut self, item: Item) -> Result<(), Refusal>
         requires { progress self.old ≡ unheaded }
-        ensures told { result ≡ toldOf (begun item) }
+        ensures told { result ≡ told_of (begun item) }
         ensures held { progress self.new ≡ left (begun item) unheaded }
     {
         match item {
@@ -54,7 +54,7 @@ impl Draft {
 
     // One line more; a refusal alters nothing.
     pub fn take(&mut self, item: Item) -> Result<(), Refusal>
-        ensures told { result ≡ toldOf (step (progress self.old) item) }
+        ensures told { result ≡ told_of (step (progress self.old) item) }
         ensures held { progress self.new ≡ left (step (progress self.old) item) (progress self.old) }
     {
         match self.head {

@@ -1,5 +1,5 @@
 -- What is within a rig's bounds stays within them under each change.
-use Rattle.std.proofs.Common.{◌≡◌, ℕ, zero, suc, ◌+◌, ◌-◌, ◌<◌, ◌≤◌, Bool, true, ◌&&◌, leb, ◌≢◌, ◌⊎◌, List, [], ◌∷◌, ◌++◌, length, get_or, set, replicate, Some, None, Decides, Option, sym, refl, ap, ◌∙◌, subst, ⊎_elim, arith, length-append}
+use Rattle.std.proofs.Common.{◌≡◌, ℕ, zero, suc, ◌+◌, ◌<◌, ◌≤◌, true, leb, ◌≢◌, List, [], ◌∷◌, ◌++◌, length, get_or, set, replicate, Some, None, Decides, Option, sym, refl, ap, ◌∙◌, subst, ⊎_elim, arith, length-append}
 use Rattle.std.proofs.lemmas.List.{get_or_default}
 use Rattle.std.proofs.lemmas.Bool.{and_parts, and_from, leb-true, le-leb, cases_eq}
 use Rattle.std.proofs.lemmas.Simd.{length-replicate, get_or-replicate}
@@ -7,8 +7,8 @@ use Rattle.std.proofs.lemmas.Bool.Decides.{nat_tests}
 use Rattle.drawing.specs.declared.Kind.{Kind}
 use Rattle.drawing.specs.declared.Point.{Point}
 use Rattle.drawing.specs.declared.Run.{Run}
-use Rattle.drawing.specs.Counts.{Within, every_to, nth}
-use Rattle.drawing.specs.Drawings.{Network, point_count, run_count, point, run, no_point, no_run, limit_of, LawfulRun, Lawful, is_lawful, is_link}
+use Rattle.drawing.specs.Counts.{Within, nth}
+use Rattle.drawing.specs.Drawings.{Network, point_count, run_count, point, run, no_point, no_run, limit_of, LawfulRun, is_link}
 use Rattle.drawing.proofs.Deciding.{decides_every, decides_lawful}
 use Rattle.rig_drawing.specs.Bounds.{Bounded, is_bounded}
 use Rattle.rig_drawing.specs.Changes.{put, plain_rig, is_limit, is_range, ranged}

@@ -1,5 +1,5 @@
 -- The bounds of a rig's drawing.
-use Rattle.std.specs.Prelude.{◌≡◌, ℕ, ◌≤◌, Bool, ◌&&◌, leb, nat_le}
+use Rattle.std.specs.Prelude.{ℕ, ◌≤◌, Bool, ◌&&◌, leb, nat_le}
 use Rattle.drawing.specs.Counts.{Within, every_to}
 use Rattle.drawing.specs.Drawings.{Network, point_count, run_count, point, run, limit_of, Lawful, is_lawful}
 

@@ -1,8 +1,7 @@
 -- The changes of a rig's drawing: which of them are refused, by rising number, and what the others write.
-use Rattle.std.specs.Prelude.{ℕ, zero, suc, ◌+◌, Bool, true, false, cond, not, ◌&&◌, ◌||◌, List, [], ◌∷◌, ◌++◌, replicate, Some, None, Ok, Err, Option, Result, ◌==◌, nat_le, nat_lt, slice_set}
+use Rattle.std.specs.Prelude.{ℕ, zero, suc, Bool, true, cond, not, ◌&&◌, ◌||◌, List, [], ◌∷◌, ◌++◌, replicate, Some, None, Ok, Err, Option, Result, ◌==◌, nat_le, nat_lt, slice_set}
 use Rattle.drawing.specs.declared.Mark.{Mark}
 use Rattle.drawing.specs.declared.Kind.{Kind}
-use Rattle.drawing.specs.declared.Point.{Point}
 use Rattle.drawing.specs.declared.Run.{Run}
 use Rattle.drawing.specs.declared.Refusal.{Refusal}
 use Rattle.drawing.specs.declared.Refusal.TheVariants.{PointCount, NoSuchPoint, NoSuchRun, BadRange, EqualEnds, RunsFull}

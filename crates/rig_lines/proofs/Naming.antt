@@ -28,8 +28,8 @@ module _ {A : Type 0} (letter : A → ℕ) (c : ℕ) where
   told_none : Told None
   told_none a e = absurd (none_some e)
 
-  told-next : (k : A) (o : Option A) → Told o → Told (cond (eqb c (letter k)) (Some k) o)
-  told-next k o t a e =
+  told_next : (k : A) (o : Option A) → Told o → Told (cond (eqb c (letter k)) (Some k) o)
+  told_next k o t a e =
       elim (cond_parts (eqb c (letter k)) (Some k) o e) [
         | inl h ↦ eqb-true c (letter k) h.0 ∙ ap letter (same_some h.1)
         | inr h ↦ t a h.1
@@ -37,13 +37,13 @@ module _ {A : Type 0} (letter : A → ℕ) (c : ℕ) where
 
 kind_told : (c : ℕ) → Told kind_letter c (kind_of c)
 kind_told c =
-    told-next kind_letter c kind.Comment _
-    (told-next kind_letter c kind.Head _
-    (told-next kind_letter c kind.Role _
-    (told-next kind_letter c kind.Limit _ (told-next kind_letter c kind.Lead _ (told-next kind_letter c kind.Link _ (told_none kind_letter c))))))
+    told_next kind_letter c kind.Comment _
+    (told_next kind_letter c kind.Head _
+    (told_next kind_letter c kind.Role _
+    (told_next kind_letter c kind.Limit _ (told_next kind_letter c kind.Lead _ (told_next kind_letter c kind.Link _ (told_none kind_letter c))))))
 
 role_told : (c : ℕ) → Told role_letter c (role_of c)
-role_told c = told-next role_letter c Rack _ (told-next role_letter c Bar _ (told_none role_letter c))
+role_told c = told_next role_letter c Rack _ (told_next role_letter c Bar _ (told_none role_letter c))
 
 pub word_of_kind : (w : List ℕ) {k : LineKind} → and_then (lone w) kind_of ≡ Some k → w ≡ kind_letter k ∷ []
 word_of_kind w {k} e =

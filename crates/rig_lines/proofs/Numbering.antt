@@ -1,7 +1,7 @@
 -- A word is a number just where it is how the number is written, and the number is below ten million.
 use Rattle.std.proofs.Common.{◌≡◌, ℕ, ◌+◌, ◌-◌, ◌*◌, ◌^◌, ◌<◌, ◌≤◌, Bool, true, false, cond, ◌&&◌, ◌||◌, eqb, ltb, leb, List, [], ◌∷◌, length, get_or, Some, None, decimal, Option, sym, refl, ap, ◌∙◌, subst, inl, inr, arith, lit<, rules}
 use Rattle.std.specs.Char.{is_ascii_digit}
-use Rattle.std.specs.List.{AllByRecursion as All}
+use Rattle.std.specs.List.{AllByRecursion}
 use Rattle.std.specs.Str.{all_ascii_digits}
 use Rattle.std.proofs.lemmas.Fmt.{digits_decimal, digits_value-decimal, decimal-digits_value, decimal_nonempty, decimal_digit, first_decimal, length-decimal-le}
 use Rattle.std.proofs.lemmas.Str.Parse.{IsNumeralModel, numerals_by_fold, digits_value_short}
@@ -21,11 +21,11 @@ own = numerals_by_fold _ (search rules) read_on (search rules)
 
 number_reads : (n : ℕ) (w : List ℕ) → number_from n w ≡ cond (all_ascii_digits w) (Some (read_on n w)) None
 number_reads n [] = refl
-number_reads n (c ∷ cs) = by-digit (is_ascii_digit c) (all_ascii_digits cs) (read_on (n * 10 + (c - 48)) cs) (number_reads (n * 10 + (c - 48)) cs)
+number_reads n (c ∷ cs) = by_digit (is_ascii_digit c) (all_ascii_digits cs) (read_on (n * 10 + (c - 48)) cs) (number_reads (n * 10 + (c - 48)) cs)
   where
-    by-digit : (b t : Bool) (y : ℕ) {x : Option ℕ} → x ≡ cond t (Some y) None → cond b x None ≡ cond (b && t) (Some y) None
-    by-digit true t y e = e
-    by-digit false t y e = refl
+    by_digit : (b t : Bool) (y : ℕ) {x : Option ℕ} → x ≡ cond t (Some y) None → cond b x None ≡ cond (b && t) (Some y) None
+    by_digit true t y e = e
+    by_digit false t y e = refl
 
 -- ten million is far from the end of the numbers that std writes
 small : (n : ℕ) → n < 10 ^ 7 → n < 2 ^ 64
@@ -78,7 +78,7 @@ number_of_word n h =
     readable (decimal n) (digits_decimal own n k) (decimal_nonempty n k) (length-decimal-le 7 n (lit< tt) h k) (first_digit n k)
     ∙ ap Some (digits_value-decimal own n k)
 
-clean_digits : (w : List ℕ) → all_ascii_digits w ≡ true → All (λ c. in_field c ≡ true) w
+clean_digits : (w : List ℕ) → all_ascii_digits w ≡ true → AllByRecursion (λ c. in_field c ≡ true) w
 clean_digits [] e = tt
 clean_digits (c ∷ cs) e =
     let p = and_parts (is_ascii_digit c) (all_ascii_digits cs) e in

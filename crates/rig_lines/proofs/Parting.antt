@@ -1,7 +1,7 @@
 -- The words that are found in a line, field after field, are those that stand in it with spaces between.
 use Rattle.std.proofs.Common.{◌≡◌, ℕ, zero, suc, ◌+◌, ◌-◌, ◌<◌, Bool, true, false, cond, eqb, ltb, List, [], ◌∷◌, ◌++◌, length, take, drop, replicate, sym, refl, ap, ◌∙◌, subst, inl, inr, zero-add, one-add, arith}
 use native.Mathlib.Nat.{add-sub_cancel_left}
-use Rattle.std.specs.List.{prefix_len, AllByRecursion as All}
+use Rattle.std.specs.List.{prefix_len, AllByRecursion}
 use Rattle.std.proofs.lemmas.List.{append-nil, length-replicate, length-drop, take-append-drop, drop-drop, take_at, take_all, drop_at, take_rest}
 use Rattle.std.proofs.lemmas.Bool.{cases_Bool, and_parts, and_from, ltb-true, lt-ltb, eqb-true, eq-eqb, not-false, not-true}
 use Rattle.rig_lines.specs.Fields.{is_space, in_field, past, skip, next, word_at, ends_at}
@@ -9,7 +9,7 @@ use Rattle.rig_lines.specs.Spelling.{Parted}
 
 -- a word that is not empty and has no space
 abbrev pub Clean : List ℕ → Type 0
-Clean w = (0 < length w) × All (λ c. in_field c ≡ true) w
+Clean w = (0 < length w) × AllByRecursion (λ c. in_field c ≡ true) w
 
 -- the words, one after another, are those that are found from the place on, and the last of them ends the line
 unfoldable pub Found : List ℕ → ℕ → List (List ℕ) → Type 0
@@ -26,11 +26,11 @@ module _ (p : ℕ → Bool) (x : ℕ) (xs : List ℕ) where
   stays e = ap (λ b. cond b (1 + prefix_len p xs) 0) e
 
 -- a scan over what passes, and what follows
-leading_all : (p : ℕ → Bool) (w t : List ℕ) → All (λ c. p c ≡ true) w → prefix_len p (w ++ t) ≡ length w + prefix_len p t
+leading_all : (p : ℕ → Bool) (w t : List ℕ) → AllByRecursion (λ c. p c ≡ true) w → prefix_len p (w ++ t) ≡ length w + prefix_len p t
 leading_all p [] t a = sym (zero-add (prefix_len p t))
 leading_all p (x ∷ w) t a = passes p x (w ++ t) a.0 ∙ omega (arith, leading_all p w t a.1)
 
-all_spaces : (k : ℕ) → All (λ c. is_space c ≡ true) (replicate k 32)
+all_spaces : (k : ℕ) → AllByRecursion (λ c. is_space c ≡ true) (replicate k 32)
 all_spaces zero = tt
 all_spaces (suc k) = (refl, all_spaces k)
 
@@ -58,14 +58,14 @@ cut_spaces : (l : List ℕ) (i : ℕ) → drop i l ≡ replicate (prefix_len is_
 cut_spaces l i = spaces (drop i l) ∙ ap (λ t. replicate (prefix_len is_space (drop i l)) 32 ++ t) (drop-drop (prefix_len is_space (drop i l)) i l)
 
 module _ (l : List ℕ) (i : ℕ) where
-  word-taken : word_at l i ≡ take (prefix_len in_field (drop i l)) (drop i l)
-  word-taken = ap (λ n. take n (drop i l)) (add-sub_cancel_left i (prefix_len in_field (drop i l)))
+  word_taken : word_at l i ≡ take (prefix_len in_field (drop i l)) (drop i l)
+  word_taken = ap (λ n. take n (drop i l)) (add-sub_cancel_left i (prefix_len in_field (drop i l)))
 
   -- what is left of the line at a place, cut at the end of the field there
   pub cut : drop i l ≡ word_at l i ++ drop (past l i) l
   cut =
       sym (take-append-drop (prefix_len in_field (drop i l)) (drop i l))
-      ∙ (λ j. sym word-taken j ++ drop-drop (prefix_len in_field (drop i l)) i l j)
+      ∙ (λ j. sym word_taken j ++ drop-drop (prefix_len in_field (drop i l)) i l j)
 
   -- where a field ends before the line does, one space or more follow it
   pub gap : past l i < length l → (k : ℕ) × (drop (past l i) l ≡ replicate (suc k) 32 ++ drop (next l i) l)
@@ -103,14 +103,14 @@ unfolding Parted
 parted_starts [] v r h p = ap (prefix_len is_space) p ∙ ap (prefix_len is_space) (sym (append-nil v)) ∙ starts v [] h
 parted_starts (u ∷ ws) v r h p = ap (prefix_len is_space) p.2 ∙ starts v _ h
 
-pub found_from_parted : (ws : List (List ℕ)) (l : List ℕ) (i : ℕ) → All Clean ws → Parted (drop i l) ws → Found l i ws
+pub found_from_parted : (ws : List (List ℕ)) (l : List ℕ) (i : ℕ) → AllByRecursion Clean ws → Parted (drop i l) ws → Found l i ws
 unfolding Found Parted
 found_from_parted [] l i h p = p
 found_from_parted (w ∷ []) l i h p =
     let n : prefix_len in_field (drop i l) ≡ length w = ap (prefix_len in_field) (p ∙ sym (append-nil w)) ∙ leading_all in_field w [] h.0.1 ∙ omega arith in
     let d : length w ≡ length l - i = ap length (sym p) ∙ length-drop i l in
     let some : 0 < length w = h.0.0 in (
-      word-taken l i ∙ (λ j. take (n j) (p j)) ∙ take_all (length w) w (omega arith),
+      word_taken l i ∙ (λ j. take (n j) (p j)) ∙ take_all (length w) w (omega arith),
       and_from (ltb i (length l)) _ (lt-ltb i (length l) (omega arith)) (eq-eqb (past l i) (length l) (omega arith)),
     )
 found_from_parted (w ∷ (v ∷ ws)) l i h p =
@@ -118,7 +118,7 @@ found_from_parted (w ∷ (v ∷ ws)) l i h p =
     let t : List ℕ = p.1 in
     let gap : List ℕ = replicate (suc k) 32 ++ t in
     let n : prefix_len in_field (drop i l) ≡ length w = ap (prefix_len in_field) p.2 ∙ leading_all in_field w gap h.0.1 ∙ omega arith in
-    let word : word_at l i ≡ w = word-taken l i ∙ (λ j. take (n j) (p.2 j)) ∙ take_at w gap (length w) refl in
+    let word : word_at l i ≡ w = word_taken l i ∙ (λ j. take (n j) (p.2 j)) ∙ take_at w gap (length w) refl in
     let behind : drop (past l i) l ≡ gap = sym (drop-drop (prefix_len in_field (drop i l)) i l) ∙ (λ j. drop (n j) (p.2 j)) ∙ drop_at w gap (length w) refl in
     let m : prefix_len is_space (drop (past l i) l) ≡ suc k =
     ap (prefix_len is_space) behind ∙ leading_all is_space (replicate (suc k) 32) t (all_spaces (suc k)) ∙ omega (arith, length-replicate {A = ℕ} (suc k) 32, parted_starts ws v t h.1.0 p.3) in

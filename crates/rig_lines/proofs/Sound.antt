@@ -2,7 +2,7 @@
 use Rattle.std.proofs.Common.{◌≡◌, ℕ, ◌^◌, ◌<◌, Bool, true, List, [], ◌∷◌, ◌++◌, length, drop, replicate, Some, decimal, ap, ◌∙◌, subst, inl, inr}
 use Rattle.std.specs.Option.{option_map, option_zip}
 use Rattle.std.specs.Bool.{then_some}
-use Rattle.std.specs.List.{AllByRecursion as All}
+use Rattle.std.specs.List.{AllByRecursion}
 use Rattle.std.proofs.lemmas.List.{drop_all}
 use Rattle.std.proofs.lemmas.Bool.{cases_lt}
 use Rattle.rig_lines.specs.declared.Item.{Item}
@@ -47,9 +47,9 @@ module _ (l : List ℕ) (x : Item) where
   abbrev P : ℕ → Part
   P i = part_at 0 l i
 
-  head-spelled : word_at l 0 ≡ 112 ∷ [] → ends_at l (third l) ≡ true → item_of (header (P (first l)) (P (second l)) (P (third l))) ≡ Some x → Spelled l x
+  head_spelled : word_at l 0 ≡ 112 ∷ [] → ends_at l (third l) ≡ true → item_of (header (P (first l)) (P (second l)) (P (third l))) ≡ Some x → Spelled l x
   unfolding Spelled Found
-  head-spelled c t e =
+  head_spelled c t e =
       let p = mapped_parts _ (option_zip (form_in (P (first l))) (pair_in (P (second l)) (P (third l)))) e in
       let q = zipped_parts (form_in (P (first l))) (pair_in (P (second l)) (P (third l))) p.1 in
       let n = two_numbers (P (second l)) (P (third l)) q.1 in
@@ -59,30 +59,30 @@ module _ (l : List ℕ) (x : Item) where
         (n.0.1, (n.1.1, tt)),
       )
 
-  role-spelled : word_at l 0 ≡ 110 ∷ [] → ends_at l (second l) ≡ true → item_of (role (P (first l)) (P (second l))) ≡ Some x → Spelled l x
+  role_spelled : word_at l 0 ≡ 110 ∷ [] → ends_at l (second l) ≡ true → item_of (role (P (first l)) (P (second l))) ≡ Some x → Spelled l x
   unfolding Spelled Found
-  role-spelled c t e =
+  role_spelled c t e =
       let p = mapped_parts _ (option_zip (number_in (P (first l))) (role_in (P (second l)))) e in
       let q = zipped_parts (number_in (P (first l))) (role_in (P (second l))) p.1 in
       let n = word_of_number (word_at l (first l)) q.0 in
       subst (Spelled l) p.2
       (parted_from_found (words (item.Role p.0.0 p.0.1)) l 0 (c, (n.0, (word_of_role (word_at l (second l)) q.1, t))), (n.1, tt))
 
-  limit-spelled : word_at l 0 ≡ 108 ∷ [] → ends_at l (second l) ≡ true → item_of (limit (P (first l)) (P (second l))) ≡ Some x → Spelled l x
+  limit_spelled : word_at l 0 ≡ 108 ∷ [] → ends_at l (second l) ≡ true → item_of (limit (P (first l)) (P (second l))) ≡ Some x → Spelled l x
   unfolding Spelled Found
-  limit-spelled c t e =
+  limit_spelled c t e =
       let p = mapped_parts _ (pair_in (P (first l)) (P (second l))) e in
       let n = two_numbers (P (first l)) (P (second l)) p.1 in
       subst (Spelled l) p.2
       (parted_from_found (words (item.Limit p.0.0 p.0.1)) l 0 (c, (n.0.0, (n.1.0, t))), (n.0.1, (n.1.1, tt)))
 
   -- a lead without a lower, or a link
-  three-spelled : (c : ℕ) (make : ℕ → ℕ → ℕ → Item)
-      → ((t h up : ℕ) → Parted l ((c ∷ []) ∷ decimal t ∷ decimal h ∷ decimal up ∷ []) × All (λ n. n < 10 ^ 7) (t ∷ h ∷ up ∷ []) → Spelled l (make t h up))
+  three_spelled : (c : ℕ) (make : ℕ → ℕ → ℕ → Item)
+      → ((t h up : ℕ) → Parted l ((c ∷ []) ∷ decimal t ∷ decimal h ∷ decimal up ∷ []) × AllByRecursion (λ n. n < 10 ^ 7) (t ∷ h ∷ up ∷ []) → Spelled l (make t h up))
       → word_at l 0 ≡ c ∷ [] → ends_at l (third l) ≡ true
       → option_map (λ p. make p.0.0 p.0.1 p.1) (option_zip (pair_in (P (first l)) (P (second l))) (number_in (P (third l)))) ≡ Some x → Spelled l x
   unfolding Found
-  three-spelled c make spelled e0 t e =
+  three_spelled c make spelled e0 t e =
       let p = mapped_parts _ (option_zip (pair_in (P (first l)) (P (second l))) (number_in (P (third l)))) e in
       let q = zipped_parts (pair_in (P (first l)) (P (second l))) (number_in (P (third l))) p.1 in
       let n = two_numbers (P (first l)) (P (second l)) q.0 in
@@ -93,9 +93,9 @@ module _ (l : List ℕ) (x : Item) where
         (n.0.1, (n.1.1, (m.1, tt))),
       ))
 
-  lead-spelled : word_at l 0 ≡ 97 ∷ [] → ends_at l (fourth l) ≡ true → item_of (lead (P (first l)) (P (second l)) (P (third l)) (P (fourth l))) ≡ Some x → Spelled l x
+  lead_spelled : word_at l 0 ≡ 97 ∷ [] → ends_at l (fourth l) ≡ true → item_of (lead (P (first l)) (P (second l)) (P (third l)) (P (fourth l))) ≡ Some x → Spelled l x
   unfolding Spelled Found
-  lead-spelled c t e =
+  lead_spelled c t e =
       let p = mapped_parts _ (option_zip (pair_in (P (first l)) (P (second l))) (pair_in (P (third l)) (P (fourth l)))) e in
       let q = zipped_parts (pair_in (P (first l)) (P (second l))) (pair_in (P (third l)) (P (fourth l))) p.1 in
       let n = two_numbers (P (first l)) (P (second l)) q.0 in
@@ -105,22 +105,22 @@ module _ (l : List ℕ) (x : Item) where
         (n.0.1, (n.1.1, (m.0.1, (m.1.1, tt)))),
       )
 
-  kind-spelled : (k : LineKind) (sh : Shape) → word_at l 0 ≡ kind_letter k ∷ [] → of_kind k 0 l ≡ Some sh → item_of sh ≡ Some x → Spelled l x
+  kind_spelled : (k : LineKind) (sh : Shape) → word_at l 0 ≡ kind_letter k ∷ [] → of_kind k 0 l ≡ Some sh → item_of sh ≡ Some x → Spelled l x
   unfolding Spelled two_parts three_parts four_parts
-  kind-spelled kind.Comment sh c e h = subst (Spelled l) (same_some (ap item_of (same_some e) ∙ h)) (commented l c)
-  kind-spelled kind.Head sh c e h = let m = made _ (ends_at l (third l)) _ sh x e h in head-spelled c m.0 m.1
-  kind-spelled kind.Role sh c e h = let m = made _ (ends_at l (second l)) _ sh x e h in role-spelled c m.0 m.1
-  kind-spelled kind.Limit sh c e h = let m = made _ (ends_at l (second l)) _ sh x e h in limit-spelled c m.0 m.1
-  kind-spelled kind.Lead sh c e h =
+  kind_spelled kind.Comment sh c e h = subst (Spelled l) (same_some (ap item_of (same_some e) ∙ h)) (commented l c)
+  kind_spelled kind.Head sh c e h = let m = made _ (ends_at l (third l)) _ sh x e h in head_spelled c m.0 m.1
+  kind_spelled kind.Role sh c e h = let m = made _ (ends_at l (second l)) _ sh x e h in role_spelled c m.0 m.1
+  kind_spelled kind.Limit sh c e h = let m = made _ (ends_at l (second l)) _ sh x e h in limit_spelled c m.0 m.1
+  kind_spelled kind.Lead sh c e h =
       elim (either_part (option_map (λ p. plain_lead p.0 p.1 p.2) (three_parts 0 l)) (option_map (λ p. lead p.0 p.1 p.2 p.3) (four_parts 0 l)) e) [
-        | inl e3 ↦ (let m = made _ (ends_at l (third l)) _ sh x e3 h in three-spelled 97 item.PlainLead (λ _ _ _ p. p) c m.0 m.1)
-        | inr e4 ↦ (let m = made _ (ends_at l (fourth l)) _ sh x e4 h in lead-spelled c m.0 m.1)
+        | inl e3 ↦ (let m = made _ (ends_at l (third l)) _ sh x e3 h in three_spelled 97 item.PlainLead (λ _ _ _ p. p) c m.0 m.1)
+        | inr e4 ↦ (let m = made _ (ends_at l (fourth l)) _ sh x e4 h in lead_spelled c m.0 m.1)
       ]
-  kind-spelled kind.Link sh c e h = let m = made _ (ends_at l (third l)) _ sh x e h in three-spelled 101 item.Link (λ _ _ _ p. p) c m.0 m.1
+  kind_spelled kind.Link sh c e h = let m = made _ (ends_at l (third l)) _ sh x e h in three_spelled 101 item.Link (λ _ _ _ p. p) c m.0 m.1
 
 pub said_spelled : (l : List ℕ) (x : Item) → said_by l ≡ Some x → Spelled l x
 unfolding said_by shape_of
 said_spelled l x e =
     let p = then_parts (shape_of 0 l) item_of e in
     let q = then_parts (and_then (lone (word_at l 0)) kind_of) (λ k. of_kind k 0 l) p.1 in
-    kind-spelled l x q.0 p.0 (word_of_kind (word_at l 0) q.1) q.2 p.2
+    kind_spelled l x q.0 p.0 (word_of_kind (word_at l 0) q.1) q.2 p.2

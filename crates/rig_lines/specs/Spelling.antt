@@ -1,6 +1,6 @@
 -- How a line says something.
 use Rattle.std.specs.Prelude.{◌≡◌, ℕ, suc, ◌^◌, ◌<◌, ◌⊎◌, ◌↔◌, List, [], ◌∷◌, ◌++◌, replicate, Some, codes, decimal}
-use Rattle.std.specs.List.{AllByRecursion as All}
+use Rattle.std.specs.List.{AllByRecursion}
 use Rattle.rig_lines.specs.declared.Item.{Item}
 use Rattle.rig_lines.specs.declared.Item.TheVariants as item
 use Rattle.rig_lines.specs.Codes.{form_name, role_letter}
@@ -38,7 +38,7 @@ CommentLine l = (l ≡ codes "c") ⊎ ((rest : List ℕ) × (l ≡ codes "c " ++
 
 -- the item's words, with numbers of at most seven digits
 abbrev pub Written : List ℕ → Item → Type 0
-Written l x = Parted l (words x) × All (λ n. n < 10 ^ 7) (numbers x)
+Written l x = Parted l (words x) × AllByRecursion (λ n. n < 10 ^ 7) (numbers x)
 
 -- the line says the item
 unfoldable pub Spelled : List ℕ → Item → Type 0

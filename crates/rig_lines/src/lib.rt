@@ -1,4 +1,6 @@
 // One line of a rig's text: its kind with its fields, and what it says.
+#![tactic(auto)]
+
 pub mod codes;
 pub mod items;
 pub mod lines;

@@ -1,4 +1,6 @@
 // Lists of calls on a rig, written as text with what each call is told; every list is performed and compared.
+#![tactic(auto)]
+
 #[cfg(test)]
 mod calls;
 #[cfg(test)]

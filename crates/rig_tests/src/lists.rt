@@ -47,27 +47,31 @@ fn compare<S>(
     heap: Global,
     call: &Call<S>,
     told: &Told,
+    title: &str,
     line: &str,
 ) -> Result<(), Fail> {
     let (_, expected) = cut(line);
-    assert_eq!(rt; told_text(heap, told)?.as_str(), expected, "{}", line);
-    assert!(rt; is_output_kept(call, told), "{}", line);
+    assert_eq!(rt;
+        told_text(heap, told)?.as_str(),
+        expected,
+        "{title}: {line}"
+    );
+    assert!(rt; is_output_kept(call, told), "{title}: {line}");
     Ok(())
 }
 
 fn compare_all<S>(
     rt: &impl Abort,
     heap: Global,
+    title: &str,
     lines: &str,
     calls: &[Call<S>],
     told: &[Told],
 ) -> Result<(), Fail> {
-    let mut number: u32 = 0;
     for (line, (call, reply)) in lines.lines().zip(calls.iter().zip(told)) {
-        number = number.saturating_add(1);
-        compare(rt, heap, call, reply, line).note(number)?;
+        compare(rt, heap, call, reply, title, line)?;
     }
-    assert!(rt; told.len() == calls.len());
+    assert!(rt; told.len() == calls.len(), "{title}");
     Ok(())
 }
 
@@ -76,13 +80,14 @@ fn play_lines<S: Named>(
     rt: &impl Abort,
     heap: Global,
     rig: &mut Rig,
+    title: &str,
     lines: &str,
 ) -> Result<(), Fail> {
     let Some(mut calls) = read_calls::<S>(heap, lines) else {
         return Err(Fail::new("a call that cannot be read"));
     };
     let told = play(heap, rig, calls.as_mut_slice())?;
-    compare_all(rt, heap, lines, &calls, &told)
+    compare_all(rt, heap, title, lines, &calls, &told)
 }
 
 fn read_rig(heap: Global, text: &str) -> Option<Rig> {
@@ -98,16 +103,17 @@ fn play_list<S: Named>(
     rt: &impl Abort,
     heap: Global,
     rig: &mut Rig,
+    title: &str,
     list: &str,
     common: &str,
 ) -> Result<(), Fail> {
     let (before, after) = list.split_once("..\n").unwrap_or((list, ""));
-    play_lines::<S>(rt, heap, rig, before)?;
+    play_lines::<S>(rt, heap, rig, title, before)?;
     if after.is_empty() {
         return Ok(());
     }
-    play_lines::<S>(rt, heap, rig, common)?;
-    play_lines::<S>(rt, heap, rig, after)
+    play_lines::<S>(rt, heap, rig, title, common)?;
+    play_lines::<S>(rt, heap, rig, title, after)
 }
 
 // The title of a list, its rig, and its calls.
@@ -130,7 +136,7 @@ fn play_all<S: Named>(
         let Some(mut rig) = read_rig(heap, rig) else {
             return Err(Fail::new(title));
         };
-        play_list::<S>(rt, heap, &mut rig, calls, common).note(title)?;
+        play_list::<S>(rt, heap, &mut rig, title, calls, common)?;
         rigs.push(rig)?;
     }
     Ok(rigs)

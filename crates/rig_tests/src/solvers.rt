@@ -1,7 +1,7 @@
 // The solvers that a list may name. All are of one type, so that one list may have several.
 use dinic::Dinic;
 use drawing::Solver;
-use either::Either;
+use either_solver::Either;
 use push_relabel::PushRelabel;
 use stacks::{Standard, standard};
 use std::alloc::Global;

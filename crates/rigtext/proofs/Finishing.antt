@@ -1,11 +1,10 @@
 -- Reading on, call by call: each call leaves what the rest of the text is read as, until the end or a fault tells it.
-use Rattle.std.proofs.Common.{◌≡◌, ℕ, suc, ◌+◌, ◌-◌, ◌<◌, ◌≤◌, Bool, true, false, cond, leb, List, [], ◌∷◌, length, drop, Some, None, Ok, Err, Option, Result, sym, refl, ap, ◌∙◌, ⊎_elim, arith}
+use Rattle.std.proofs.Common.{◌≡◌, ℕ, ◌+◌, ◌-◌, ◌<◌, ◌≤◌, Bool, true, false, cond, leb, List, [], ◌∷◌, length, drop, Some, None, Ok, Err, Option, Result, sym, refl, ap, ◌∙◌, ⊎_elim, arith}
 use Rattle.std.proofs.lemmas.List.{drop-drop}
 use Rattle.std.proofs.lemmas.Bool.{cond-true, cases_lt}
 use Rattle.drawing.specs.declared.Refusal.{Refusal}
 use Rattle.drawing.specs.declared.Refusal.TheVariants.{TextTooLong}
 use Rattle.drawing.specs.Drawings.{Network}
-use Rattle.rig_lines.specs.Items.{said_by}
 use Rattle.rig_lines.specs.Shapes.{Shape, shape_of}
 use Rattle.reading.specs.declared.Fault.{Fault}
 use Rattle.reading.specs.Lines.{lines_of, start_of}

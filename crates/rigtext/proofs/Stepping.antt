@@ -1,5 +1,5 @@
 -- What a line does to a reader.
-use Rattle.std.proofs.Common.{◌≡◌, ℕ, ◌+◌, ◌-◌, ◌≤◌, true, ◌&&◌, leb, List, length, take, drop, Some, None, Ok, Err, Option, Result, sym, refl, ap, ◌∙◌, ap₂, arith}
+use Rattle.std.proofs.Common.{◌≡◌, ℕ, ◌+◌, ◌-◌, ◌≤◌, ◌&&◌, leb, List, length, take, drop, Some, None, Ok, Err, Option, Result, sym, ap, ◌∙◌, ap₂, arith}
 use Rattle.std.specs.List.{prefix_len}
 use Rattle.std.proofs.lemmas.List.{length-drop}
 use Rattle.std.proofs.lemmas.List.Sums.{prefix_len-le-length}
@@ -11,7 +11,7 @@ use Rattle.rig_lines.specs.Items.{item_of, said_by}
 use Rattle.rig_lines.specs.Shapes.{Shape, and_then, shape_of, line_at}
 use Rattle.rig_lines.proofs.Saying.{said_anywhere}
 use Rattle.reading.specs.Lines.{in_line}
-use Rattle.reading.specs.Reading.{Progress, line_read, step}
+use Rattle.reading.specs.Reading.{Progress, line_read}
 use Rattle.rig_draft.specs.Drafts.{told, left}
 use Rattle.rigtext.specs.States.{State, line_from, line_taken, line_shown, shown_by, moved}
 
@@ -21,8 +21,8 @@ said start l o e = sym (said_anywhere start l) ∙ ap (λ x. and_then x item_of)
 
 -- what stands in the line that begins at a place, and what it says
 module _ (t : List ℕ) (start end : ℕ) (inside : start ≤ length t) (ends : end ≡ start + prefix_len in_line (drop start t)) where
-  line-there : line_at t start end ≡ shape_of start (line_from t start)
-  line-there =
+  line_there : line_at t start end ≡ shape_of start (line_from t start)
+  line_there =
       let short : prefix_len in_line (drop start t) ≤ length (drop start t) = prefix_len-le-length in_line (drop start t) in
       let within : end ≤ length t = omega (arith, length-drop start t) in
       let size : end - start ≡ prefix_len in_line (drop start t) = omega arith in
@@ -30,7 +30,7 @@ module _ (t : List ℕ) (start end : ℕ) (inside : start ≤ length t) (ends : 
       ∙ ap (λ n. shape_of start (take n (drop start t))) size
 
   pub shape_there : (o : Option Shape) → o ≡ line_at t start end → o ≡ shape_of start (line_from t start)
-  shape_there o e = e ∙ line-there
+  shape_there o e = e ∙ line_there
 
   pub says_nothing : None ≡ line_at t start end → said_by (line_from t start) ≡ None
   says_nothing e = said start (line_from t start) None (shape_there None e)

@@ -1,5 +1,5 @@
 -- A reader at a line of a text: what it shows of the next line, and where it is then.
-use Rattle.std.specs.Prelude.{◌≡◌, ℕ, ◌+◌, ◌-◌, Bool, cond, List, [], ◌∷◌, length, take, drop, is_some, Some, None, Ok, Err, Option, Result, nat_le}
+use Rattle.std.specs.Prelude.{ℕ, ◌+◌, ◌-◌, cond, List, [], ◌∷◌, length, take, drop, Some, None, Ok, Err, Option, Result, nat_le}
 use Rattle.std.specs.List.{prefix_len}
 use Rattle.drawing.specs.declared.Refusal.{Refusal}
 use Rattle.drawing.specs.declared.Refusal.TheVariants.{LineOrder, TextTooLong}
@@ -9,7 +9,7 @@ use Rattle.rig_lines.specs.Items.{said_by}
 use Rattle.rig_lines.specs.Shapes.{Shape, shape, shapes, shape_of}
 use Rattle.reading.specs.declared.Fault.{Fault}
 use Rattle.reading.specs.Lines.{in_line, lines_of, start_of}
-use Rattle.reading.specs.Reading.{Progress, unheaded, finished, fault, line_read, read_lines}
+use Rattle.reading.specs.Reading.{Progress, unheaded, finished, fault, line_read}
 use Rattle.rig_draft.specs.Drafts.{progress}
 use Rattle.rigtext.specs.declared.reader.Reader.{Reader}
 

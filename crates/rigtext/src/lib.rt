@@ -1,4 +1,6 @@
 // The reader of a rig's text: line by line, or the whole text at once.
+#![tactic(auto)]
+
 mod guard;
 pub mod reader;
 

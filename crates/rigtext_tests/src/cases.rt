@@ -19,9 +19,9 @@ p rig 1 0 0 => 7 1
 p rig 2 1|a 1 1 5 3 => 5 2
 ";
 
-fn try_case(rt: &impl Abort, heap: Global, text: &str, expected: &str) -> Result<(), Fail> {
-    let text = text_of(heap, text)?;
-    try_text(rt, heap, &text, expected)
+fn try_case(rt: &impl Abort, heap: Global, case: &str, expected: &str) -> Result<(), Fail> {
+    let text = text_of(heap, case)?;
+    try_text(rt, heap, &text, expected, case)
 }
 
 #[test]
@@ -30,9 +30,7 @@ fn texts_have_their_outcomes(rt: HostRuntime) -> Result<(), Fail> {
     for line in CASES.lines() {
         if let Some((text, expected)) = line.split_once(" => ") {
             number = number.saturating_add(1);
-            try_case(&rt, rt.alloc(), text, expected)
-                .note(line)
-                .note(number)?;
+            try_case(&rt, rt.alloc(), text, expected)?;
         }
     }
     assert_eq!(rt; number, 6);

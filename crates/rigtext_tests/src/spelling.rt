@@ -1,7 +1,6 @@
 // A text as a case of the table spells it, and a drawing as its outcome does.
 use drawing::{Drawing, Kind, Mark, Point, Run};
 use std::alloc::{AllocError, Global};
-use std::fmt;
 use std::fmt::Write;
 use std::test::Fail;
 
@@ -27,7 +26,7 @@ pub(crate) fn text_of(heap: Global, spelled: &str) -> Result<Vec<u8>, AllocError
     Ok(text)
 }
 
-fn spell_point(out: &mut String, point: Point) -> fmt::Result {
+fn spell_point(out: &mut String, point: Point) -> Result<(), AllocError> {
     let letter = match point.mark {
         Mark::Plain => '.',
         Mark::Rack => 's',
@@ -39,7 +38,7 @@ fn spell_point(out: &mut String, point: Point) -> fmt::Result {
     }
 }
 
-fn spell_run(out: &mut String, run: Run) -> fmt::Result {
+fn spell_run(out: &mut String, run: Run) -> Result<(), AllocError> {
     let sign = match run.kind {
         Kind::Lead => '>',
         Kind::Link => '=',

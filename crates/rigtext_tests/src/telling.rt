@@ -22,14 +22,14 @@ fn line_start(text: &[u8], line: u16) -> usize {
 
 // Reads line by line: None at the end, or the fault, which is told twice.
 // After each line that is accepted the place is the start of the next.
-fn by_lines(rt: &impl Abort, heap: Global, text: &[u8]) -> Result<Option<Fault>, Fail> {
+fn by_lines(rt: &impl Abort, heap: Global, text: &[u8], case: &str) -> Result<Option<Fault>, Fail> {
     let mut reader = Reader::new(heap, text)?;
     for number in 2..20_000 {
         match reader.next_line() {
-            Ok(Some(_)) => assert!(rt; reader.place() == line_start(text, number)),
+            Ok(Some(_)) => assert!(rt; reader.place() == line_start(text, number), "{case}"),
             Ok(None) => return Ok(None),
             Err(fault) => {
-                assert!(rt; reader.place() == line_start(text, fault.line));
+                assert!(rt; reader.place() == line_start(text, fault.line), "{case}");
                 return Ok(reader.next_line().err());
             }
         }
@@ -46,15 +46,15 @@ fn fault_text(heap: Global, fault: Option<Fault>) -> Result<String, Fail> {
 }
 
 // What `read` tells: a drawing, or a fault by its number and its line.
-fn whole(rt: &impl Abort, heap: Global, text: &[u8]) -> Result<String, Fail> {
+fn whole(rt: &impl Abort, heap: Global, text: &[u8], case: &str) -> Result<String, Fail> {
     let mut place = usize::MAX;
     match read(heap, text, &mut place) {
         Ok(rig) => {
-            assert!(rt; place == text.len());
+            assert!(rt; place == text.len(), "{case}");
             spelled(heap, &rig.drawing)
         }
         Err(ReadError::Fault(fault)) => {
-            assert!(rt; place == line_start(text, fault.line));
+            assert!(rt; place == line_start(text, fault.line), "{case}");
             fault_text(heap, Some(fault))
         }
         Err(ReadError::Memory) => Err(Fail::new("no memory")),
@@ -67,15 +67,16 @@ pub(crate) fn try_text(
     heap: Global,
     text: &[u8],
     expected: &str,
+    case: &str,
 ) -> Result<(), Fail> {
-    let told = whole(rt, heap, text)?;
-    assert_eq!(rt; told.as_str(), expected);
-    let fault = fault_text(heap, by_lines(rt, heap, text)?)?;
+    let told = whole(rt, heap, text, case)?;
+    assert_eq!(rt; told.as_str(), expected, "{case}");
+    let fault = fault_text(heap, by_lines(rt, heap, text, case)?)?;
     let expected = if expected.starts_with("ok") {
         ""
     } else {
         expected
     };
-    assert_eq!(rt; fault.as_str(), expected);
+    assert_eq!(rt; fault.as_str(), expected, "{case}");
     Ok(())
 }

@@ -1,4 +1,6 @@
 // Memory that a layer keeps from solve to solve, and writing within the room that there is.
+#![tactic(auto)]
+
 mod copying;
 mod points;
 pub mod workspace;

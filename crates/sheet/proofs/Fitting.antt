@@ -1,6 +1,6 @@
 -- Every number of a rig's sheet has at most seven digits.
 use Rattle.std.proofs.Common.{◌≡◌, ℕ, zero, suc, ◌+◌, ◌*◌, ◌^◌, ◌<◌, ◌≤◌, List, ℤ, pos, ◌-ℤ◌, nat_abs, ap, le_trans, mul-suc, arith}
-use Rattle.std.specs.List.{AllByRecursion as All}
+use Rattle.std.specs.List.{AllByRecursion}
 use Rattle.std.proofs.lemmas.Int.{ints}
 use Rattle.drawing.specs.declared.Kind.{Kind}
 use Rattle.drawing.specs.declared.Kind.TheVariants.{Lead, Link}
@@ -42,15 +42,15 @@ module _ (d : Network) (bounded : Bounded d) where
   pub admissible : Admissible d
   admissible = record { lawful = bounded.lawful; few_points = omega (arith, bounded.few_points); few_runs = omega (arith, bounded.few_runs) }
 
-  crossing-at-most : (ls : List Label) → crossing d ls ≤ 9999 * run_count d
-  crossing-at-most ls = sum_at_most (run_count d) 9999 _ (λ k w.
+  crossing_at_most : (ls : List Label) → crossing d ls ≤ 9999 * run_count d
+  crossing_at_most ls = sum_at_most (run_count d) 9999 _ (λ k w.
       le_trans (adds_at_most (run d k).kind (label ls (run d k).tail) (label ls (run d k).head) (run d k).upper) (bounded.small_uppers k w))
 
-  throttled-at-most : (ls : List Label) → throttled d ls ≤ 9999 * point_count d
-  throttled-at-most ls = sum_at_most (point_count d) 9999 _ (λ v w. le_trans (only_le (is_tight (label ls v)) (limit_of (point d v).limit)) (bounded.small_limits v w))
+  throttled_at_most : (ls : List Label) → throttled d ls ≤ 9999 * point_count d
+  throttled_at_most ls = sum_at_most (point_count d) 9999 _ (λ v w. le_trans (only_le (is_tight (label ls v)) (limit_of (point d v).limit)) (bounded.small_limits v w))
 
-  forced-at-most : (ls : List Label) → forced d ls ≤ 9999 * run_count d
-  forced-at-most ls = sum_at_most (run_count d) 9999 _ (λ k w.
+  forced_at_most : (ls : List Label) → forced d ls ≤ 9999 * run_count d
+  forced_at_most ls = sum_at_most (run_count d) 9999 _ (λ k w.
       le_trans (deducts_at_most (run d k).kind (label ls (run d k).tail) (label ls (run d k).head) (run d k).lower)
       (le_trans (bounded.lawful.each_run k w).ordered (bounded.small_uppers k w)))
 
@@ -58,14 +58,14 @@ module _ (d : Network) (bounded : Bounded d) where
   pub small_worth : (ls : List Label) → Small (worth d ls)
   small_worth ls =
       difference (crossing d ls + throttled d ls) (forced d ls)
-      (omega (arith, crossing-at-most ls, throttled-at-most ls, bounded.few_runs, bounded.few_points)) (omega (arith, forced-at-most ls, bounded.few_runs))
+      (omega (arith, crossing_at_most ls, throttled_at_most ls, bounded.few_runs, bounded.few_points)) (omega (arith, forced_at_most ls, bounded.few_runs))
 
   -- a total, which is the worth of a cut
   pub small_total : (t : ℕ) (ls : List Label) → worth d ls ≡ pos t → Small (pos t)
   small_total t ls e = omega (arith, small_worth ls, ap nat_abs e)
 
   -- the numbers of a run's line
-  pub small_run : (p : Plan) → Feasible d p → (k : ℕ) → Within (run_count d) k → All Small (run_numbers k (run d k) (flow p k))
+  pub small_run : (p : Plan) → Feasible d p → (k : ℕ) → Within (run_count d) k → AllByRecursion Small (run_numbers k (run d k) (flow p k))
   small_run p ok k w =
       let lawful = bounded.lawful.each_run k w in
       let points = bounded.few_points in

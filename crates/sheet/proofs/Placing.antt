@@ -24,17 +24,17 @@ module _ (xs : List ℕ) (a : ℕ) (b : List ℕ) (fits : a + length b ≤ lengt
   front_length : length (take a xs ++ b) ≡ a + length b
   front_length = length-append (take a xs) b ∙ ap (λ k. k + length b) (length-take-le a xs (omega arith))
 
-  placed-is : placed xs a b ≡ (take a xs ++ b) ++ drop (a + length b) xs
-  placed-is = sym (append_assoc (take a xs) b (drop (a + length b) xs))
+  placed_is : placed xs a b ≡ (take a xs ++ b) ++ drop (a + length b) xs
+  placed_is = sym (append_assoc (take a xs) b (drop (a + length b) xs))
 
-  length-placed : length (placed xs a b) ≡ length xs
-  length-placed =
-      ap length placed-is ∙ length-append (take a xs ++ b) (drop (a + length b) xs) ∙ omega (arith, front_length, length-drop (a + length b) xs)
+  length_placed : length (placed xs a b) ≡ length xs
+  length_placed =
+      ap length placed_is ∙ length-append (take a xs ++ b) (drop (a + length b) xs) ∙ omega (arith, front_length, length-drop (a + length b) xs)
 
   -- the text c right after the text b is the text b ++ c
   pub placed_more : (out c : List ℕ) (n : ℕ) → out ≡ placed xs a b → n ≡ a + length b → placed out n c ≡ placed xs a (b ++ c)
   placed_more out c n e at =
-      let o : out ≡ (take a xs ++ b) ++ drop (a + length b) xs = e ∙ placed-is in
+      let o : out ≡ (take a xs ++ b) ++ drop (a + length b) xs = e ∙ placed_is in
       let h : length (take a xs ++ b) ≡ n = front_length ∙ sym at in
       let t : take n out ≡ take a xs ++ b = ap (take n) o ∙ take_at (take a xs ++ b) (drop (a + length b) xs) n h in
       let d : drop n out ≡ drop (a + length b) xs = ap (drop n) o ∙ drop_at (take a xs ++ b) (drop (a + length b) xs) n h in
@@ -49,7 +49,7 @@ module _ (xs : List ℕ) (a : ℕ) (b : List ℕ) (fits : a + length b ≤ lengt
   -- one byte right after the text b
   pub byte_more : (out : List ℕ) (n y : ℕ) → out ≡ placed xs a b → n ≡ a + length b → n < length xs → set out n y ≡ placed xs a (b ++ (y ∷ []))
   byte_more out n y e at h =
-      let k : length out ≡ length xs = ap length e ∙ length-placed in
+      let k : length out ≡ length xs = ap length e ∙ length_placed in
       placed_one out n y (omega (arith, k)) ∙ placed_more out (y ∷ []) n e at
 
 -- one byte, and the text b right after it

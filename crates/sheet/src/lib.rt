@@ -1,4 +1,6 @@
 // The sheet of an answer, and the line that tells a fault, byte by byte.
+#![tactic(auto)]
+
 mod lines;
 mod numbers;
 mod writing;

@@ -1,6 +1,6 @@
 // The lines of a sheet, each written from a place of the output on.
 ghost use Rattle.std.specs.Prelude.{◌≡◌, ℕ, ◌+◌, ◌*◌, ◌<◌, ◌≤◌, length, pos, slice_set};
-ghost use Rattle.std.specs.List.{AllByRecursion as All};
+ghost use Rattle.std.specs.List.{AllByRecursion};
 ghost use Rattle.drawing.specs.Counts.{Within, nth};
 ghost use Rattle.drawing.specs.Drawings.{no_run};
 ghost use Rattle.drawing.specs.Labels.{label as label_of};
@@ -13,7 +13,7 @@ use drawing::{Label, Run};
 // Writes a line's letter and its numbers.
 fn write_front(out: &mut [u8], a: usize, letter: u8, numbers: &[i32])
     requires room { a + 1 + 8 * length numbers.now ≤ length out.old }
-    requires small { All Small numbers.now }
+    requires small { AllByRecursion Small numbers.now }
     ensures { out.new ≡ placed out.old a (line_front letter numbers.now) }
 {
     out[a] = letter;
@@ -31,7 +31,7 @@ fn end_line(out: &mut [u8], at: usize)
 // Writes a line that has nothing else.
 pub(crate) fn write_numbers(out: &mut [u8], a: usize, letter: u8, numbers: &[i32])
     requires room { a + 2 + 8 * length numbers.now ≤ length out.old }
-    requires small { All Small numbers.now }
+    requires small { AllByRecursion Small numbers.now }
     ensures { out.new ≡ placed out.old a (number_line letter numbers.now) }
 {
     write_front(out, a, letter, numbers);
@@ -41,7 +41,7 @@ pub(crate) fn write_numbers(out: &mut [u8], a: usize, letter: u8, numbers: &[i32
 // A run's line: its number, tail, head and flow.
 fn write_run(out: &mut [u8], a: usize, number: usize, run: Run, flow: i32)
     requires room { a + 34 ≤ length out.old }
-    requires small { All Small (run_numbers number run flow) }
+    requires small { AllByRecursion Small (run_numbers number run flow) }
     ensures { out.new ≡ placed out.old a (run_line number run flow) }
 {
     let (tail, head) = (run.tail as i32, run.head as i32);
@@ -62,7 +62,7 @@ fn write_point(out: &mut [u8], a: usize, number: usize, label: Label)
 pub(crate) fn write_runs(out: &mut [u8], a: usize, runs: &[Run], flows: &[i32])
     requires room { a + 34 * length runs.now ≤ length out.old }
     requires level { length flows.now ≡ length runs.now }
-    requires small { (k : ℕ) → Within (length runs.now) k → All Small (run_numbers k (nth runs.now k no_run) (nth flows.now k (pos 0))) }
+    requires small { (k : ℕ) → Within (length runs.now) k → AllByRecursion Small (run_numbers k (nth runs.now k no_run) (nth flows.now k (pos 0))) }
     ensures { out.new ≡ placed out.old a (text_to (length runs.now) (λ k. run_line k (nth runs.now k no_run) (nth flows.now k (pos 0)))) }
 {
     for (i, run) in runs.iter().enumerate() {

@@ -1,6 +1,6 @@
 // Numbers, each right-justified in eight columns.
 ghost use Rattle.std.specs.Prelude.{◌≡◌, ◌+◌, ◌-◌, ◌*◌, ◌≤◌, ◌++◌, length, drop, replicate, decimal, slice_set};
-ghost use Rattle.std.specs.List.{AllByRecursion as All};
+ghost use Rattle.std.specs.List.{AllByRecursion};
 ghost use Rattle.sheet.specs.Columns.{column, columns, Narrow, Small, placed};
 
 // Writes the digits of n at the end of the columns and answers the place of the first one.
@@ -67,7 +67,7 @@ fn write_at(out: &mut [u8], a: usize, value: i32)
 // Writes numbers one after another from place a on, each into its own columns.
 pub(crate) fn write_columns(out: &mut [u8], a: usize, numbers: &[i32])
     requires room { a + 8 * length numbers.now ≤ length out.old }
-    requires small { All Small numbers.now }
+    requires small { AllByRecursion Small numbers.now }
     ensures { out.new ≡ placed out.old a (columns numbers.now) }
 {
     for (i, value) in numbers.iter().enumerate() {

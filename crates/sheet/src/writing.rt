@@ -1,8 +1,8 @@
 // The sheet of an answer, and the line that tells a fault, each written to the front of the output or not at all.
 ghost use Rattle.std.specs.Prelude.{◌≡◌, ◌≤◌, length, pos};
-ghost use Rattle.std.specs.List.{AllByRecursion as All};
+ghost use Rattle.std.specs.List.{AllByRecursion};
 ghost use Rattle.drawing.specs.Codes.{refusal_number};
-ghost use Rattle.drawing.specs.Labels.{Shortage, worth as worthOf};
+ghost use Rattle.drawing.specs.Labels.{Shortage, worth as worth_of};
 ghost use Rattle.drawing.specs.Answers.{Short, Right};
 ghost use Rattle.drawing.specs.Records.{network, answer_in};
 ghost use Rattle.rig_drawing.specs.Bounds.{Bounded};
@@ -48,7 +48,7 @@ fn small_number(value: i64) -> i32
 pub fn short_worth(d: &Drawing, labels: &[Label]) -> i32
     requires bounded { Bounded (network d.now) }
     requires right { Shortage (network d.now) labels.now }
-    ensures value { result ≡ worthOf (network d.now) labels.now }
+    ensures value { result ≡ worth_of (network d.now) labels.now }
     ensures small { Small result }
 {
     small_number(worth(d, labels).unwrap())
@@ -116,7 +116,7 @@ pub fn write_sheet(out: &mut [u8], rig: &RigDrawing, answer: &Record) -> Result<
 // Writes one line and nothing else.
 fn write_alone(out: &mut [u8], letter: u8, numbers: &[i32]) -> Result<usize, Refusal>
     requires few { length numbers.now ≤ 4 }
-    requires small { All Small numbers.now }
+    requires small { AllByRecursion Small numbers.now }
     ensures tells { result ≡ writing_tells out.old (number_line letter numbers.now) }
     ensures leaves { out.new ≡ writing_leaves out.old (number_line letter numbers.now) }
 {

@@ -138,17 +138,16 @@ fn solve_case<S: Solver>(
     refusal: (u64, u64),
     total: u32,
     letters: &str,
-) -> Result<(), Fail> {
+    case: &str,
+) {
     let held = (out.total, out.labels.len());
-    assert!(rt; told(solver.solve(d, out)) == refusal);
+    assert!(rt; told(solver.solve(d, out)) == refusal, "{case}");
     if refusal == (0, 0) {
-        assert!(rt; out.total == total);
-        assert!(rt; are_labels(out, letters));
-        assert!(rt; is_right(d, out));
-        Ok(())
+        assert!(rt; out.total == total, "{case}");
+        assert!(rt; are_labels(out, letters), "{case}");
+        assert!(rt; is_right(d, out), "{case}");
     } else {
-        assert!(rt; (out.total, out.labels.len()) == held);
-        Ok(())
+        assert!(rt; (out.total, out.labels.len()) == held, "{case}");
     }
 }
 
@@ -158,10 +157,10 @@ fn try_case<S: Solver>(
     heap: Global,
     solver: &mut S,
     out: &mut Record,
-    line: &str,
+    case: &str,
     second: bool,
 ) -> Result<(), Fail> {
-    let (points, line) = read_points(heap, line)?;
+    let (points, line) = read_points(heap, case)?;
     let (refusal, line) = number(line)?;
     let (feature, line) = number(line)?;
     let (total, line) = number(line)?;
@@ -170,12 +169,28 @@ fn try_case<S: Solver>(
     let runs = read_runs(heap, line)?;
     let d = Drawing { points, runs };
     let total = u32::try_from(total)?;
-    if second {
-        solve_case(rt, solver, &d, out, (refusal, feature), total, other)?;
-        return solve_case(rt, solver, &d, out, (refusal, feature), total, other);
-    }
-    solve_case(rt, solver, &d, out, (refusal, feature), total, one)?;
-    solve_case(rt, solver, &d, out, (refusal, feature), total, one)
+    let letters = if second { other } else { one };
+    solve_case(
+        rt,
+        solver,
+        &d,
+        out,
+        (refusal, feature),
+        total,
+        letters,
+        case,
+    );
+    solve_case(
+        rt,
+        solver,
+        &d,
+        out,
+        (refusal, feature),
+        total,
+        letters,
+        case,
+    );
+    Ok(())
 }
 
 #[test]
@@ -183,7 +198,7 @@ fn dinic_solves_one_after_the_other(rt: HostRuntime) -> Result<(), Fail> {
     let mut solver = Dinic::new(rt.alloc())?;
     let mut out = Record::new(rt.alloc())?;
     for line in CASES.lines() {
-        try_case(&rt, rt.alloc(), &mut solver, &mut out, line, false).note(line)?;
+        try_case(&rt, rt.alloc(), &mut solver, &mut out, line, false)?;
     }
     Ok(())
 }
@@ -193,7 +208,7 @@ fn push_relabel_solves_one_after_the_other(rt: HostRuntime) -> Result<(), Fail> 
     let mut solver = PushRelabel::new(rt.alloc())?;
     let mut out = Record::new(rt.alloc())?;
     for line in CASES.lines() {
-        try_case(&rt, rt.alloc(), &mut solver, &mut out, line, true).note(line)?;
+        try_case(&rt, rt.alloc(), &mut solver, &mut out, line, true)?;
     }
     Ok(())
 }

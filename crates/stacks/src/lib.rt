@@ -1,4 +1,6 @@
 // The standard stack: terminals over links over limits over lower bounds over a bottom solver.
+#![tactic(auto)]
+
 ghost use Rattle.std.specs.Prelude.{◌≡◌, IfOk};
 ghost use Rattle.stacks.specs.Standard.{standard_statements};
 

@@ -1,4 +1,6 @@
 // Tries solvers against each other, against the proved checks and, on small drawings, against all labellings.
+#![tactic(auto)]
+
 mod exhaustive;
 mod random;
 mod shapes;

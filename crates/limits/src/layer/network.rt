@@ -4,7 +4,7 @@ ghost use Rattle.drawing.specs.Counts.{Within};
 ghost use Rattle.drawing.specs.Drawings.{Lawful, point_count};
 ghost use Rattle.drawing.specs.Records.{network};
 ghost use Rattle.reductions.specs.Added.{added};
-ghost use Rattle.reductions.specs.Limits.{entry as entry_of, beyond as beyondOf, limited_at, exit as exit_of, moved, limit_lead, limits_below};
+ghost use Rattle.reductions.specs.Limits.{entry as entry_of, beyond as beyond_of, limited_at, exit as exit_of, moved, limit_lead, limits_below};
 
 use drawing::{Drawing, Mark, Point, Run};
 use scratch::{Workspace, lead};
@@ -22,7 +22,7 @@ fn entry(q: Point) -> Point
 
 // The point beyond it: the bar, if it is a limited one.
 fn beyond(q: Point) -> Point
-    ensures { result ≡ beyondOf q }
+    ensures { result ≡ beyond_of q }
 {
     let mark = match (q.mark, q.limit) {
         (Mark::Bar, Some(_)) => Mark::Bar,
@@ -45,7 +45,7 @@ fn push_entries(points: &[Point], out: &mut Vec<Point>)
 
 fn push_beyond(points: &[Point], out: &mut Vec<Point>)
     requires { vec_len out.old + length points.now ≤ vec_capacity out.old }
-    ensures items { out.new.items ≡ out.old.items ++ map beyondOf points.now }
+    ensures items { out.new.items ≡ out.old.items ++ map beyond_of points.now }
     ensures capacity { vec_capacity out.new ≡ vec_capacity out.old }
 {
     for q in points {

@@ -53,8 +53,8 @@ fn push_leads_back(runs: &[Run], out: &mut Vec<Run>)
 
 // Writes the network below the drawing.
 pub(crate) fn write_below(drawing: &Drawing, out: &mut Workspace)
-    requires points_len_bound { vec_len drawing.now.points ≤ 128 }
-    requires runs_bound { 2 * vec_len drawing.now.runs ≤ 1024 }
+    requires few_points { vec_len drawing.now.points ≤ 128 }
+    requires few_runs { 2 * vec_len drawing.now.runs ≤ 1024 }
     ensures { network out.new.drawing ≡ links_below (network drawing.now) }
 {
     copy_into(&drawing.points, &mut out.drawing.points);

@@ -3,10 +3,10 @@ ghost use Rattle.std.specs.Prelude.{◌≡◌, ◌+◌, ◌-◌, ◌*◌, ◌≤
 ghost use Rattle.std.specs.List.{range_with_len};
 ghost use Rattle.drawing.specs.declared.Kind.TheVariants.{Lead};
 ghost use Rattle.drawing.specs.Counts.{only, sum_to, nth};
-ghost use Rattle.drawing.specs.Drawings.{Lawful, no_run, units as unitsOf, uses, point_count, rack_count, bar_count};
-ghost use Rattle.drawing.specs.Plans.{forth as carriedForth};
+ghost use Rattle.drawing.specs.Drawings.{Lawful, no_run, units as units_of, uses, point_count, rack_count, bar_count};
+ghost use Rattle.drawing.specs.Plans.{forth as carried_forth};
 ghost use Rattle.drawing.specs.Records.{network, plan_in};
-ghost use Rattle.reductions.specs.LowerBounds.{old_rack, old_bar, lowers_in, lowers_out, all_lowers, uppers_out, slack as slackOf, supply_lead, demand_lead, pairs, lowers_first, forward_lead, reversed_lead, lowers_second};
+ghost use Rattle.reductions.specs.LowerBounds.{old_rack, old_bar, lowers_in, lowers_out, all_lowers, uppers_out, slack as slack_of, supply_lead, demand_lead, pairs, lowers_first, forward_lead, reversed_lead, lowers_second};
 ghost use Rattle.lower_bounds.specs.Parts.{points_only, runs_only, flows_only};
 
 use drawing::{Drawing, Feature, Mark, Point, Record, Run};
@@ -101,14 +101,14 @@ fn uppers_leaving(runs: &[Run], v: usize) -> u32
 
 // The lead with what may flow above its lower.
 fn slack(r: Run) -> Run
-    ensures { result ≡ slackOf r }
+    ensures { result ≡ slack_of r }
 {
     lead(r.tail, r.head, r.upper.saturating_sub(r.lower))
 }
 
 fn push_slacks(runs: &[Run], out: &mut Vec<Run>)
     requires { length runs.now ≤ vec_capacity out.old }
-    ensures items { out.new.items ≡ map slackOf runs.now }
+    ensures items { out.new.items ≡ map slack_of runs.now }
     ensures len { vec_len out.new ≡ length runs.now }
     ensures capacity { vec_capacity out.new ≡ vec_capacity out.old }
 {
@@ -141,7 +141,7 @@ fn push_pairs(drawing: &Drawing, out: &mut Vec<Run>)
 pub(super) fn write_first(drawing: &Drawing, out: &mut Workspace)
     requires lawful { Lawful (network drawing.now) }
     requires ends { uses (network drawing.now) Feature.Terminals ≡ false }
-    requires few { unitsOf (network drawing.now) ≤ 600000000 }
+    requires few { units_of (network drawing.now) ≤ 600000000 }
     requires points { vec_len drawing.now.points + 2 ≤ 128 }
     requires runs { vec_len drawing.now.runs + 2 * vec_len drawing.now.points + 1 ≤ 1024 }
     ensures { network out.new.drawing ≡ lowers_first (network drawing.now) }
@@ -156,14 +156,14 @@ pub(super) fn write_first(drawing: &Drawing, out: &mut Workspace)
 
 // What a flow carries from tail to head.
 pub(super) fn forth(f: i32) -> u32
-    ensures { result ≡ carriedForth f }
+    ensures { result ≡ carried_forth f }
 {
     if f > 0 { f.unsigned_abs() } else { 0 }
 }
 
 // The lead with what may be added to its lower and the flow above it.
 fn forward(r: Run, f: i32) -> Run
-    ensures { result ≡ record { kind = Lead; tail = r.tail; head = r.head; lower = 0; upper = r.upper - (r.lower + carriedForth f) } }
+    ensures { result ≡ record { kind = Lead; tail = r.tail; head = r.head; lower = 0; upper = r.upper - (r.lower + carried_forth f) } }
 {
     lead(
         r.tail,
@@ -174,7 +174,7 @@ fn forward(r: Run, f: i32) -> Run
 
 // The lead back, with what may be taken away from that flow.
 fn reversed(r: Run, f: i32) -> Run
-    ensures { result ≡ record { kind = Lead; tail = r.head; head = r.tail; lower = 0; upper = (r.lower + carriedForth f) - r.lower } }
+    ensures { result ≡ record { kind = Lead; tail = r.head; head = r.tail; lower = 0; upper = (r.lower + carried_forth f) - r.lower } }
 {
     lead(r.head, r.tail, forth(f))
 }

@@ -3,9 +3,9 @@ ghost use Rattle.std.specs.Prelude.{◌≡◌, ℕ, ◌+◌, ◌≤◌, false, �
 ghost use Rattle.std.specs.List.{range_with_len};
 ghost use Rattle.drawing.specs.Answers.{Right};
 ghost use Rattle.drawing.specs.Counts.{Within, only};
-ghost use Rattle.drawing.specs.Drawings.{Admissible, is_rack, is_bar, point as pointAt, rack_count, bar_count, run_count, units as unitsOf, uses};
+ghost use Rattle.drawing.specs.Drawings.{Admissible, is_rack, is_bar, point as point_at, rack_count, bar_count, run_count, units as units_of, uses};
 ghost use Rattle.drawing.specs.Labels.{is_near, is_far};
-ghost use Rattle.drawing.specs.Plans.{Feasible, forth as carriedForth};
+ghost use Rattle.drawing.specs.Plans.{Feasible, forth as carried_forth};
 ghost use Rattle.drawing.specs.Records.{network, contents, filed, plan_in, answer_in};
 ghost use Rattle.reductions.specs.LowerBounds.{all_lowers, short_labels, lowers_first, lowers_second, last_flow, raised_flow, raised_answer};
 ghost use Rattle.lower_bounds.specs.Parts.{points_only};
@@ -73,9 +73,9 @@ fn read_labels(points: &[Point], labels: &[Label], out: &mut Vec<Label>)
 
 // The lower, what the first network carries above it, and what the second adds and takes away.
 fn raised(lower: u32, first: i32, up: i32, down: i32) -> i32
-    requires least { carriedForth down ≤ lower + carriedForth first + carriedForth up }
-    requires most { lower + carriedForth first + carriedForth up ≤ carriedForth down + 600000000 }
-    ensures { result ≡ pos (lower + carriedForth first + carriedForth up) -ℤ pos (carriedForth down) }
+    requires least { carried_forth down ≤ lower + carried_forth first + carried_forth up }
+    requires most { lower + carried_forth first + carried_forth up ≤ carried_forth down + 600000000 }
+    ensures { result ≡ pos (lower + carried_forth first + carried_forth up) -ℤ pos (carried_forth down) }
 {
     let sum = u64::from(lower) + u64::from(forth(first)) + u64::from(forth(up));
     (sum - u64::from(forth(down))) as i32
@@ -84,8 +84,8 @@ fn raised(lower: u32, first: i32, up: i32, down: i32) -> i32
 // The total, supplied at the rack and delivered at the bar.
 fn read_ends(points: &[Point], total: u32, supplies: &mut Vec<u32>, deliveries: &mut Vec<u32>)
     requires room { (length points.now ≤ vec_capacity supplies.old) × (length points.now ≤ vec_capacity deliveries.old) }
-    ensures supplied { supplies.new.items ≡ map (λ v. only (is_rack (pointAt (points_only points.now) v).mark) total) (range_with_len 1 (length points.now)) }
-    ensures delivered { deliveries.new.items ≡ map (λ v. only (is_bar (pointAt (points_only points.now) v).mark) total) (range_with_len 1 (length points.now)) }
+    ensures supplied { supplies.new.items ≡ map (λ v. only (is_rack (point_at (points_only points.now) v).mark) total) (range_with_len 1 (length points.now)) }
+    ensures delivered { deliveries.new.items ≡ map (λ v. only (is_bar (point_at (points_only points.now) v).mark) total) (range_with_len 1 (length points.now)) }
     ensures capacity { (vec_capacity supplies.new ≡ vec_capacity supplies.old) × (vec_capacity deliveries.new ≡ vec_capacity deliveries.old) }
 {
     supplies.clear();
@@ -153,7 +153,7 @@ pub(super) fn write_short(drawing: &Drawing, first: &Record, out: &mut Record)
 // Writes the answer above, by the plan of the first network and the answer to the second.
 pub(super) fn write_raised(drawing: &Drawing, first: &Record, second: &Record, out: &mut Record)
     requires admissible { Admissible (network drawing.now) }
-    requires given { (uses (network drawing.now) Feature.Links ≡ false) × (unitsOf (network drawing.now) ≤ 600000000) }
+    requires given { (uses (network drawing.now) Feature.Links ≡ false) × (units_of (network drawing.now) ≤ 600000000) }
     requires feasible { Feasible (lowers_first (network drawing.now)) (plan_in first.now) }
     requires below { Right (lowers_second (network drawing.now) (plan_in first.now)) (answer_in second.now) }
     requires right { Right (network drawing.now) (raised_answer (network drawing.now) (plan_in first.now) (answer_in second.now)) }

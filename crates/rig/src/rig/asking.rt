@@ -1,6 +1,6 @@
 // The questions about an ending. Checks go by rising number, and no question alters the rig.
 ghost use Rattle.std.specs.Prelude.{◌≡◌};
-ghost use Rattle.ledger.specs.Ledgers.{question, total as totalAsked, shortfall as worthAsked, label_of as labelAsked, usage as useAsked, says, reply_of, totals, falls, labelled, carries};
+ghost use Rattle.ledger.specs.Ledgers.{question, total as total_asked, shortfall as worth_asked, label_of as label_asked, usage as use_asked, says, reply_of, totals, falls, labelled, carries};
 ghost use Rattle.rig.specs.Rigs.{ledger_of};
 
 use crate::Rig;
@@ -11,7 +11,7 @@ use sheet::short_worth;
 impl Rig {
     // The total of the plan.
     pub fn total(&self) -> Result<u32, Refusal>
-        ensures { reply_of totals result ≡ says (ledger_of self.now) (question totalAsked) }
+        ensures { reply_of totals result ≡ says (ledger_of self.now) (question total_asked) }
     {
         match self.standing {
             Standing::Drawn => Err(Refusal::NotSolved),
@@ -22,7 +22,7 @@ impl Rig {
 
     // The worth of the shortage.
     pub fn worth(&self) -> Result<i32, Refusal>
-        ensures { reply_of falls result ≡ says (ledger_of self.now) (question worthAsked) }
+        ensures { reply_of falls result ≡ says (ledger_of self.now) (question worth_asked) }
     {
         match self.standing {
             Standing::Drawn => Err(Refusal::NotSolved),
@@ -36,7 +36,7 @@ impl Rig {
 
     // The label of point v.
     pub fn label(&self, v: usize) -> Result<Label, Refusal>
-        ensures { reply_of labelled result ≡ says (ledger_of self.now) (question (labelAsked v)) }
+        ensures { reply_of labelled result ≡ says (ledger_of self.now) (question (label_asked v)) }
     {
         if v < 1 || v > self.drawing.drawing.points.len() {
             return Err(Refusal::NoSuchPoint);
@@ -50,7 +50,7 @@ impl Rig {
 
     // The flow of run k and its spare units, which are its upper without the size of the flow.
     pub fn usage(&self, k: usize) -> Result<(i32, u32), Refusal>
-        ensures { reply_of (λ u. carries u.0 u.1) result ≡ says (ledger_of self.now) (question (useAsked k)) }
+        ensures { reply_of (λ u. carries u.0 u.1) result ≡ says (ledger_of self.now) (question (use_asked k)) }
     {
         if k < 1 || k > self.drawing.drawing.runs.len() {
             return Err(Refusal::NoSuchRun);

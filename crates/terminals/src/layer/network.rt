@@ -1,6 +1,6 @@
 // The network below.
 ghost use Rattle.std.specs.Prelude.{◌≡◌, ◌+◌, ◌≤◌, ◌&&◌, ◌||◌, ◌++◌, vec_len, vec_capacity, ◌==◌};
-ghost use Rattle.drawing.specs.Drawings.{Lawful, is_link, point_count, units as unitsOf};
+ghost use Rattle.drawing.specs.Drawings.{Lawful, is_link, point_count, units as units_of};
 ghost use Rattle.drawing.specs.Records.{network};
 ghost use Rattle.reductions.specs.Added.{added};
 ghost use Rattle.reductions.specs.Terminals.{uppers_leaving, uppers_entering, is_terminal, terminal_lead, terminals_below};
@@ -30,7 +30,7 @@ fn enters(r: Run, v: usize) -> bool
 
 fn uppers_leaving(drawing: &Drawing, v: usize) -> u32
     requires lawful { Lawful (network drawing.now) }
-    requires few { unitsOf (network drawing.now) ≤ 600000000 }
+    requires few { units_of (network drawing.now) ≤ 600000000 }
     ensures { result ≡ uppers_leaving (network drawing.now) v }
 {
     let runs = drawing.runs.as_slice();
@@ -45,7 +45,7 @@ fn uppers_leaving(drawing: &Drawing, v: usize) -> u32
 
 fn uppers_entering(drawing: &Drawing, v: usize) -> u32
     requires lawful { Lawful (network drawing.now) }
-    requires few { unitsOf (network drawing.now) ≤ 600000000 }
+    requires few { units_of (network drawing.now) ≤ 600000000 }
     ensures { result ≡ uppers_entering (network drawing.now) v }
 {
     let runs = drawing.runs.as_slice();
@@ -61,7 +61,7 @@ fn uppers_entering(drawing: &Drawing, v: usize) -> u32
 // A lead from the new rack to each old rack and from each old bar to the new bar, by point.
 fn push_leads(drawing: &Drawing, out: &mut Vec<Run>)
     requires lawful { Lawful (network drawing.now) }
-    requires few { unitsOf (network drawing.now) ≤ 600000000 }
+    requires few { units_of (network drawing.now) ≤ 600000000 }
     requires room { vec_len out.old + vec_len drawing.now.points ≤ vec_capacity out.old }
     requires small { vec_len drawing.now.points ≤ 128 }
     ensures items { out.new.items ≡ out.old.items ++ added (point_count (network drawing.now)) (is_terminal (network drawing.now)) (terminal_lead (network drawing.now)) }
@@ -87,7 +87,7 @@ fn push_leads(drawing: &Drawing, out: &mut Vec<Run>)
 // Writes the network below the drawing.
 pub(crate) fn write_below(drawing: &Drawing, out: &mut Workspace)
     requires lawful { Lawful (network drawing.now) }
-    requires few { unitsOf (network drawing.now) ≤ 600000000 }
+    requires few { units_of (network drawing.now) ≤ 600000000 }
     requires points { vec_len drawing.now.points + 2 ≤ 128 }
     requires runs { vec_len drawing.now.runs + vec_len drawing.now.points ≤ 1024 }
     ensures { network out.new.drawing ≡ terminals_below (network drawing.now) }

@@ -23,7 +23,7 @@ push-total-requires c =
       net = subst (Chained hs c.args.net.next.now) (sym long) c.requires.net.0;
       sizes = (omega arith, omega arith);
       here = (omega arith, (omega arith, omega arith));
-      sound = (subst (Placed hs) (sym c.copy-from-slice.ensures.after) (started_placed hs fs c.requires.net.1), sent_bounded hs c.args.source c.args.sink c.loop-turn.total c.args.left.now rs c.loop-turn.invariant.0 c.requires.sound.0);
+      sound = (subst (Placed hs) (sym c.copy_from_slice.ensures.after) (started_placed hs fs c.requires.net.1), sent_bounded hs c.args.source c.args.sink c.loop-turn.total c.args.left.now rs c.loop-turn.invariant.0 c.requires.sound.0);
     }
 
 pub loop-turn-preserved : goal.loop-turn-preserved
@@ -45,7 +45,7 @@ loop-turn-preserved c =
     let rs' = c.push-total.new.left in
     let cs' = c.push-total.new.current in
     let out : pushes hs l sink (get_or l sink 0) (get_or l sink 0 - 1) source 1800000000 rs fs ≡ (rs', cs', 1800000000 - r) =
-    subst (λ (x : List ℕ). pushes hs l sink (get_or l sink 0) (get_or l sink 0 - 1) source 1800000000 rs x ≡ (rs', cs', 1800000000 - r)) c.copy-from-slice.ensures.after c.push-total.ensures.out in (
+    subst (λ (x : List ℕ). pushes hs l sink (get_or l sink 0) (get_or l sink 0 - 1) source 1800000000 rs x ≡ (rs', cs', 1800000000 - r)) c.copy_from_slice.ensures.after c.push-total.ensures.out in (
       run_sent source sink c.requires.net.0 c.requires.net.1 sz (omega arith) (omega arith) c.requires.ends.1.1 c.args.left.now rs rs' cs' l c.loop-turn.total r (omega arith) c.loop-turn.invariant.0 la c.if-top-eq0.false c.push-total.ensures.most out,
       sym (phases_on hs fs source sink f rs c.loop-turn.level c.loop-turn.total l is rs' cs' r c.if-top-eq0.false c.push-total.ensures.most out) ∙ inv,
     )

@@ -20,13 +20,13 @@ lay-requires c =
     let p : Plain d = c.requires.plain in
     let few = p.few_points in
     let few_runs = p.few_runs in
-    let runs = c.as-slice.ensures.value in
+    let runs = c.as_slice.ensures.value in
     let same = ap length runs in
     let rv = c.args.drawing.now.runs.ok.0 in
     let pv = c.args.drawing.now.points.ok.0 in
     let long : point_count d + 1 ≡ length c.args.first.now = omega arith in
     record {
-      ends = subst (λ (n : ℕ). Ends c.as-slice.result.now n) long (subst (λ (xs : List Run). Ends xs (point_count d + 1)) (sym runs) (ends d p));
+      ends = subst (λ (n : ℕ). Ends c.as_slice.result.now n) long (subst (λ (xs : List Run). Ends xs (point_count d + 1)) (sym runs) (ends d p));
       sizes = (omega arith, (omega arith, (omega arith, (omega arith, omega arith))));
     }
 
@@ -36,18 +36,18 @@ last_rack ps = last_to (length ps) (λ v. is_rack (nth ps v no_point).mark)
 abbrev last_bar : List Point → ℕ
 last_bar ps = last_to (length ps) (λ v. is_bar (nth ps v no_point).mark)
 
-pub max-flow-total-requires : goal.max-flow-total-requires
-max-flow-total-requires c =
+pub max_flow-total-requires : goal.max_flow-total-requires
+max_flow-total-requires c =
     let d = network c.args.drawing.now in
     let p : Plain d = c.requires.plain in
     let few = p.few_points in
-    let runs = c.as-slice.ensures.value in
+    let runs = c.as_slice.ensures.value in
     let heads : c.lay.new.head ≡ heads_of d.runs = c.lay.ensures.heads ∙ ap heads_of runs in
     let room : c.lay.new.left ≡ room_of d.runs = c.lay.ensures.room ∙ ap room_of runs in
     let rv = c.args.drawing.now.runs.ok.0 in
     let pv = c.args.drawing.now.points.ok.0 in
-    let r : c.terminals-rack.result.0 ≡ rack_of d = c.terminals-rack.ensures.rack ∙ ap last_rack c.as-slice-2.ensures.value in
-    let b : c.terminals-rack.result.1 ≡ bar_of d = c.terminals-rack.ensures.bar ∙ ap last_bar c.as-slice-2.ensures.value in
+    let r : c.terminals-rack.result.0 ≡ rack_of d = c.terminals-rack.ensures.rack ∙ ap last_rack c.as_slice-2.ensures.value in
+    let b : c.terminals-rack.result.1 ≡ bar_of d = c.terminals-rack.ensures.bar ∙ ap last_bar c.as_slice-2.ensures.value in
     let rin = (rack d p).within in
     let bin = (bar d p).within in
     let long : length c.args.first.now ≡ length c.args.level.now = omega arith in
@@ -73,10 +73,10 @@ write-requires c =
     let few_runs = p.few_runs in
     let rv = c.args.drawing.now.runs.ok.0 in
     let pv = c.args.drawing.now.points.ok.0 in
-    let runs = c.as-slice.ensures.value in
+    let runs = c.as_slice.ensures.value in
     let room : c.lay.new.left ≡ room_of d.runs = c.lay.ensures.room ∙ ap room_of runs in
-    let sent = c.max-flow-total.ensures.ended.sent in
-    let bd = sent_bounded c.lay.new.head c.terminals-rack.result.0 c.terminals-rack.result.1 c.max-flow-total.result c.lay.new.left c.max-flow-total.new.left sent (subst Bounded (sym room) (bounded d p)) in
+    let sent = c.max_flow-total.ensures.ended.sent in
+    let bd = sent_bounded c.lay.new.head c.terminals-rack.result.0 c.terminals-rack.result.1 c.max_flow-total.result c.lay.new.left c.max_flow-total.new.left sent (subst Bounded (sym room) (bounded d p)) in
     record {
       sizes = (omega arith, (omega arith, (omega arith, omega arith)));
       most = λ a h. let q = bd.bound a h in omega arith;
@@ -87,12 +87,12 @@ returns c =
     let d = network c.args.drawing.now in
     let p : Plain d = c.requires.plain in
     let pv = c.args.drawing.now.points.ok.0 in
-    let runs = c.as-slice.ensures.value in
+    let runs = c.as_slice.ensures.value in
     let heads : c.lay.new.head ≡ heads_of d.runs = c.lay.ensures.heads ∙ ap heads_of runs in
     let room : c.lay.new.left ≡ room_of d.runs = c.lay.ensures.room ∙ ap room_of runs in
-    let r : c.terminals-rack.result.0 ≡ rack_of d = c.terminals-rack.ensures.rack ∙ ap last_rack c.as-slice-2.ensures.value in
-    let b : c.terminals-rack.result.1 ≡ bar_of d = c.terminals-rack.ensures.bar ∙ ap last_bar c.as-slice-2.ensures.value in
+    let r : c.terminals-rack.result.0 ≡ rack_of d = c.terminals-rack.ensures.rack ∙ ap last_rack c.as_slice-2.ensures.value in
+    let b : c.terminals-rack.result.1 ≡ bar_of d = c.terminals-rack.ensures.bar ∙ ap last_bar c.as_slice-2.ensures.value in
     let long : length c.lay.new.first ≡ point_count d + 1 = omega arith in
     c.write.ensures
     ∙ ap filed (dinic_is d c.lay.new.head c.lay.new.first c.lay.new.left c.args.level.now c.terminals-rack.result.0 c.terminals-rack.result.1
-    (c.max-flow-total.new.left, c.max-flow-total.new.level, c.max-flow-total.result) heads c.lay.ensures.started long room r b c.max-flow-total.ensures.out)
+    (c.max_flow-total.new.left, c.max_flow-total.new.level, c.max_flow-total.result) heads c.lay.ensures.started long room r b c.max_flow-total.ensures.out)

@@ -1,4 +1,4 @@
-use Rattle.std.proofs.Common.{◌≡◌, ℕ, sym, refl, ap, ◌∙◌, arith}
+use Rattle.std.proofs.Common.{◌≡◌, ℕ, sym, refl, ap, arith}
 use mathlib.Core.Bool.{false≢true}
 use Rattle.drawing.specs.Solvers.{Carried, code_of}
 use Rattle.drawing.specs.Records.{network}

@@ -5,7 +5,7 @@ use Rattle.drawing.specs.Records.{network}
 use Rattle.checkers.proofs.admission.is_used.Goals as goal
 
 pub returns-in-Terminals : goal.returns-in-Terminals
-returns-in-Terminals c = c.uses-terminals.ensures
+returns-in-Terminals c = c.uses_terminals.ensures
     ∙ ap (λ xs. not (eqb (count_to (length xs) (λ v. is_rack (nth xs v no_point).mark)) 1 && eqb (count_to (length xs) (λ v. is_bar (nth xs v no_point).mark)) 1))
-    c.as-slice-in-Terminals.ensures.value
+    c.as_slice-in-Terminals.ensures.value
     ∙ ap (uses (network c.args.d.now)) (sym c.in-Terminals.is)

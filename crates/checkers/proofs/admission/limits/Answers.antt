@@ -1,4 +1,4 @@
-use Rattle.std.proofs.Common.{◌∙◌, arith, rules}
+use Rattle.std.proofs.Common.{rules}
 use Rattle.drawing.specs.Counts.{nth}
 use Rattle.drawing.specs.Drawings.{no_point, limit_of}
 use Rattle.checkers.proofs.Loops.{sum_more}

@@ -1,6 +1,6 @@
 use Rattle.drawing.specs.Counts.{nth}
 use Rattle.drawing.specs.Drawings.{no_run}
-use Rattle.std.proofs.Common.{arith, rules}
+use Rattle.std.proofs.Common.{rules}
 use Rattle.checkers.proofs.Loops.{sum_more}
 use Rattle.checkers.proofs.admission.uppers.Goals as goal
 

@@ -5,7 +5,7 @@ use Rattle.checkers.proofs.Loops.{some_more, some_stop}
 use Rattle.checkers.proofs.admission.uses_limits.Goals as goal
 
 pub loop-p-preserved : goal.loop-p-preserved
-loop-p-preserved c = some_more (λ v. is_some (nth c.args.points.now v no_point).limit) _ c.if-is-some.ensures c.loop-p.invariant
+loop-p-preserved c = some_more (λ v. is_some (nth c.args.points.now v no_point).limit) _ c.if-is_some.ensures c.loop-p.invariant
 
-pub returns-then-is-some : goal.returns-then-is-some
-returns-then-is-some c = some_stop _ (λ v. is_some (nth c.args.points.now v no_point).limit) _ c.loop-p-test.true c.if-is-some.ensures
+pub returns-then-is_some : goal.returns-then-is_some
+returns-then-is_some c = some_stop _ (λ v. is_some (nth c.args.points.now v no_point).limit) _ c.loop-p-test.true c.if-is_some.ensures

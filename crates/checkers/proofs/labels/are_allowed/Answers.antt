@@ -6,7 +6,7 @@ use Rattle.checkers.proofs.Loops.{every_more, every_stop}
 use Rattle.checkers.proofs.labels.are_allowed.Goals as goal
 
 pub loop-v-preserved : goal.loop-v-preserved
-loop-v-preserved c = every_more (λ v. tight_allowed (label c.args.labels.now v) (nth c.args.points.now v no_point).limit) _ c.if-not-is-allowed.ensures c.loop-v.invariant
+loop-v-preserved c = every_more (λ v. tight_allowed (label c.args.labels.now v) (nth c.args.points.now v no_point).limit) _ c.if-not-is_allowed.ensures c.loop-v.invariant
 
-pub returns-then-not-is-allowed : goal.returns-then-not-is-allowed
-returns-then-not-is-allowed c = every_stop _ (λ v. tight_allowed (label c.args.labels.now v) (nth c.args.points.now v no_point).limit) _ c.loop-v-test.true c.if-not-is-allowed.ensures
+pub returns-then-not-is_allowed : goal.returns-then-not-is_allowed
+returns-then-not-is_allowed c = every_stop _ (λ v. tight_allowed (label c.args.labels.now v) (nth c.args.points.now v no_point).limit) _ c.loop-v-test.true c.if-not-is_allowed.ensures

@@ -6,7 +6,7 @@ use Rattle.checkers.proofs.Loops.{some_more, some_stop}
 use Rattle.checkers.proofs.labels.has_near_bar.Goals as goal
 
 pub loop-v-preserved : goal.loop-v-preserved
-loop-v-preserved c = some_more (λ v. bar_near (nth c.args.points.now v no_point).mark (label c.args.labels.now v)) _ c.if-is-near-bar.ensures c.loop-v.invariant
+loop-v-preserved c = some_more (λ v. bar_near (nth c.args.points.now v no_point).mark (label c.args.labels.now v)) _ c.if-is_near_bar.ensures c.loop-v.invariant
 
-pub returns-then-is-near-bar : goal.returns-then-is-near-bar
-returns-then-is-near-bar c = some_stop _ (λ v. bar_near (nth c.args.points.now v no_point).mark (label c.args.labels.now v)) _ c.loop-v-test.true c.if-is-near-bar.ensures
+pub returns-then-is_near_bar : goal.returns-then-is_near_bar
+returns-then-is_near_bar c = some_stop _ (λ v. bar_near (nth c.args.points.now v no_point).mark (label c.args.labels.now v)) _ c.loop-v-test.true c.if-is_near_bar.ensures

@@ -5,14 +5,14 @@ use Rattle.drawing.proofs.Deciding.{decides_admissible, decides_cut}
 use Rattle.checkers.proofs.Guards.{guarded_then, guarded_else}
 use Rattle.checkers.proofs.labels.is_cut.Goals as goal
 
-pub returns-then-is-admissible : goal.returns-then-is-admissible
-returns-then-is-admissible c =
+pub returns-then-is_admissible : goal.returns-then-is_admissible
+returns-then-is_admissible c =
     let d = network c.args.d.now in
     let ls = c.args.labels.now in
-    guarded_then (is_admissible d) (is_cut d ls) (decides_admissible d) (decides_cut d ls) _ c.if-is-admissible.ensures c.is-cut-of.ensures
+    guarded_then (is_admissible d) (is_cut d ls) (decides_admissible d) (decides_cut d ls) _ c.if-is_admissible.ensures c.is_cut_of.ensures
 
-pub returns-else-is-admissible : goal.returns-else-is-admissible
-returns-else-is-admissible c =
+pub returns-else-is_admissible : goal.returns-else-is_admissible
+returns-else-is_admissible c =
     let d = network c.args.d.now in
     let ls = c.args.labels.now in
-    guarded_else (is_admissible d) (is_cut d ls) (decides_admissible d) (decides_cut d ls) _ c.is-admissible.ensures c.if-is-admissible.false
+    guarded_else (is_admissible d) (is_cut d ls) (decides_admissible d) (decides_cut d ls) _ c.is_admissible.ensures c.if-is_admissible.false

@@ -18,15 +18,15 @@ at_point ps rs fs ss ts v e l b h he hl = h ∙ ap₂ (kept_at (get_or ps v no_p
     (he ∙ ap (λ u. sum_to (length rs) (λ k. brings (nth rs k no_run) (nth fs k (pos 0)) u)) (add-one v))
     (hl ∙ ap (λ u. sum_to (length rs) (λ k. takes (nth rs k no_run) (nth fs k (pos 0)) u)) (add-one v))
 
-pub returns-then-not-is-kept : goal.returns-then-not-is-kept
-returns-then-not-is-kept c =
+pub returns-then-not-is_kept : goal.returns-then-not-is_kept
+returns-then-not-is_kept c =
     every_stop _ (kept_in c.args.points.now c.args.runs.now c.args.flows.now c.args.supplies.now c.args.deliveries.now) _ c.loop-v-test.true
     (at_point c.args.points.now c.args.runs.now c.args.flows.now c.args.supplies.now c.args.deliveries.now _ _ _ _
-    c.if-not-is-kept.ensures c.entering-entered.ensures.value c.leaving-left.ensures.value)
+    c.if-not-is_kept.ensures c.entering-entered.ensures.value c.leaving-left.ensures.value)
 
 pub loop-v-preserved : goal.loop-v-preserved
 loop-v-preserved c =
     every_more (kept_in c.args.points.now c.args.runs.now c.args.flows.now c.args.supplies.now c.args.deliveries.now) _
     (at_point c.args.points.now c.args.runs.now c.args.flows.now c.args.supplies.now c.args.deliveries.now _ _ _ _
-    c.if-not-is-kept.ensures c.entering-entered.ensures.value c.leaving-left.ensures.value)
+    c.if-not-is_kept.ensures c.entering-entered.ensures.value c.leaving-left.ensures.value)
     c.loop-v.invariant

@@ -6,14 +6,14 @@ use Rattle.drawing.specs.Plans.{plan_of}
 use Rattle.checkers.proofs.Guards.{guarded_then, guarded_else}
 use Rattle.checkers.proofs.plans.is_feasible.Goals as goal
 
-pub returns-then-is-admissible : goal.returns-then-is-admissible
-returns-then-is-admissible c =
+pub returns-then-is_admissible : goal.returns-then-is_admissible
+returns-then-is_admissible c =
     let d = network c.args.d.now in
     let p = plan_of c.args.flows.now c.args.supplies.now c.args.deliveries.now in
-    guarded_then (is_admissible d) (is_feasible d p) (decides_admissible d) (decides_feasible d p) _ c.if-is-admissible.ensures c.is-feasible-plan.ensures
+    guarded_then (is_admissible d) (is_feasible d p) (decides_admissible d) (decides_feasible d p) _ c.if-is_admissible.ensures c.is_feasible_plan.ensures
 
-pub returns-else-is-admissible : goal.returns-else-is-admissible
-returns-else-is-admissible c =
+pub returns-else-is_admissible : goal.returns-else-is_admissible
+returns-else-is_admissible c =
     let d = network c.args.d.now in
     let p = plan_of c.args.flows.now c.args.supplies.now c.args.deliveries.now in
-    guarded_else (is_admissible d) (is_feasible d p) (decides_admissible d) (decides_feasible d p) _ c.is-admissible.ensures c.if-is-admissible.false
+    guarded_else (is_admissible d) (is_feasible d p) (decides_admissible d) (decides_feasible d p) _ c.is_admissible.ensures c.if-is_admissible.false

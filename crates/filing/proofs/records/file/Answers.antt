@@ -28,7 +28,7 @@ returns c =
     let runs : c.len.result ≡ length (vec_items d.runs) = omega (arith, c.len.ensures, d.runs.ok.0) in
     let points : c.len-points.result ≡ length (vec_items d.points) = omega (arith, c.len-points.ensures, d.points.ok.0) in
     same
-    (c.write-flows.ensures.items ∙ ap (λ (m : ℕ). flows_in m c.args.left.now) runs)
-    (c.write-amounts.ensures.items ∙ ap (amounts Rack c.args.total) c.as-slice.ensures.value)
-    (c.write-amounts-2.ensures.items ∙ ap (amounts Bar c.args.total) c.as-slice-2.ensures.value)
-    (c.write-labels.ensures.items ∙ ap (λ (n : ℕ). map (λ v. cond (ltb 0 (get_or c.args.level.now v 0)) c.args.reached c.args.other) (range_with_len 1 n)) points)
+    (c.write_flows.ensures.items ∙ ap (λ (m : ℕ). flows_in m c.args.left.now) runs)
+    (c.write_amounts.ensures.items ∙ ap (amounts Rack c.args.total) c.as_slice.ensures.value)
+    (c.write_amounts-2.ensures.items ∙ ap (amounts Bar c.args.total) c.as_slice-2.ensures.value)
+    (c.write_labels.ensures.items ∙ ap (λ (n : ℕ). map (λ v. cond (ltb 0 (get_or c.args.level.now v 0)) c.args.reached c.args.other) (range_with_len 1 n)) points)

@@ -1,12 +1,11 @@
-use Rattle.std.proofs.Common.{◌≡◌, ℕ, zero, suc, ◌+◌, ◌-◌, ◌<◌, ◌≤◌, eqb, ◌≢◌, List, [], ◌∷◌, ◌++◌, length, get_or, set, replicate, deque_items, deque_len, deque_capacity, sym, refl, ap, ◌∙◌, subst, arith, length-set, rules}
-use Rattle.residual.specs.Net.{Chained, Bounded, outs}
-use Rattle.preflow.specs.Push.{Out, scans}
-use Rattle.preflow.specs.Turns.{State, aims, turned, first_heights, first_excess, opening, after, states, turns_for, final}
+use Rattle.std.proofs.Common.{◌≡◌, ℕ, ◌+◌, List, [], length, get_or, set, replicate, deque_items, deque_capacity, sym, refl, ap, ◌∙◌, subst, arith}
+use Rattle.preflow.specs.Push.{scans}
+use Rattle.preflow.specs.Turns.{State, first_heights, first_excess, opening, after, states, turns_for, final}
 use Rattle.preflow.specs.Preflow.{whole, Lined}
 use Rattle.preflow.proofs.Lines.{active_parts}
-use Rattle.preflow.proofs.Progress.{first_length, first_source, first_whole, first_lined, opening_is, after_none, after_front, ready, front_within, final_is, states_sound}
+use Rattle.preflow.proofs.Progress.{first_length, first_source, first_whole, first_lined, opening_is, after_none, after_front, ready, front_within, final_is}
 use Rattle.preflow.proofs.turns.max_flow.Goals as goal
-use Rattle.preflow.proofs.turns.max_flow.Goals.{else-loop-turn-test, then-loop-turn-test+in-default}
+use Rattle.preflow.proofs.turns.max_flow.Goals.{else-loop-turn-test, then-loop-turn-test+in_default}
 
 -- what the code fills in first
 filled : (n m source x : ℕ) (xs : List ℕ) → xs ≡ replicate m 0 → m ≡ n + 1 → set xs source x ≡ set (replicate (n + 1) 0) source x
@@ -121,13 +120,13 @@ returns c =
       | else-loop-turn-test w ↦
           let l = w.loop-turn-test.false in
           let k = c.loop-turn.auto.turn-end in
-          let t = c.turns-for-turn-end.ensures in
+          let t = c.turns_for-turn-end.ensures in
           let q : turn ≡ turns_for n = omega (arith, l, k, t) in
           ap (states hs n source sink rs₀) (sym q) ∙ sym e
-      | then-loop-turn-test+in-default w ↦
+      | then-loop-turn-test+in_default w ↦
           let l = w.loop-turn-test.true in
-          let t = c.turns-for-turn-end.ensures in
-          let idle : (states hs n source sink rs₀ turn).queue ≡ [] = ap (λ (x : State). x.queue) (sym e) ∙ w.in-default.ensures.front in
+          let t = c.turns_for-turn-end.ensures in
+          let idle : (states hs n source sink rs₀ turn).queue ≡ [] = ap (λ (x : State). x.queue) (sym e) ∙ w.in_default.ensures.front in
           final_is hs rs₀ n source sink ar en same small c.requires.sound.1 turn (omega (arith, l, t)) idle ∙ sym e
     ] in
     record {
@@ -136,6 +135,6 @@ returns c =
       total = ap (λ (x : State). get_or x.excess sink 0) (sym end);
       capacity = elim c.loop-turn-test.branch [
         | else-loop-turn-test w ↦ ap (λ q. deque_capacity q) w.queue-is ∙ c.loop-turn.invariant.1 ∙ c.drain.ensures.capacity ∙ c.clear.ensures.capacity
-        | then-loop-turn-test+in-default w ↦ ap (λ q. deque_capacity q) w.queue-is ∙ w.leave.ensures.capacity ∙ c.loop-turn.invariant.1 ∙ c.drain.ensures.capacity ∙ c.clear.ensures.capacity
+        | then-loop-turn-test+in_default w ↦ ap (λ q. deque_capacity q) w.queue-is ∙ w.leave.ensures.capacity ∙ c.loop-turn.invariant.1 ∙ c.drain.ensures.capacity ∙ c.clear.ensures.capacity
       ];
     }

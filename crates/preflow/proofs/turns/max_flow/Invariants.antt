@@ -1,5 +1,5 @@
-use Rattle.std.proofs.Common.{◌≡◌, ◌+◌, ◌<◌, deque_items, deque_capacity}
-use Rattle.preflow.specs.Turns.{State, after}
+use Rattle.std.proofs.Common.{◌≡◌, deque_items, deque_capacity}
+use Rattle.preflow.specs.Turns.{after}
 use Rattle.preflow.proofs.turns.max_flow.Given as goal
 
 -- the state after so many turns

@@ -1,18 +1,15 @@
-use Rattle.std.proofs.Common.{◌≡◌, ℕ, ◌+◌, ◌*◌, ◌<◌, ◌≤◌, eqb, List, length, get_or, vec_items, vec_len, sym, refl, ap, ◌∙◌, subst, arith}
+use Rattle.std.proofs.Common.{◌≡◌, ℕ, ◌+◌, ◌≤◌, eqb, List, length, vec_len, sym, ap, ◌∙◌, subst, arith}
 use Rattle.drawing.specs.declared.Point.{Point}
 use Rattle.drawing.specs.declared.Run.{Run}
 use Rattle.drawing.specs.Counts.{nth}
-use Rattle.drawing.specs.Drawings.{Network, point_count, run_count, no_point, is_rack, is_bar}
+use Rattle.drawing.specs.Drawings.{point_count, no_point, is_rack, is_bar}
 use Rattle.drawing.specs.Records.{network, filed}
 use Rattle.residual.specs.Net.{Chained, Bounded, outs}
 use Rattle.residual.specs.Laying.{heads_of, room_of, Ends}
 use Rattle.residual.specs.Plain.{Plain, last_to, rack_of, bar_of}
 use Rattle.residual.proofs.Arcs.{length_heads, length_room}
 use Rattle.residual.proofs.Rooms.{ends as run_ends, bounded, outs_few}
-use Rattle.residual.proofs.Terminals.{rack, bar, apart}
-use Rattle.preflow.specs.Turns.{final}
 use Rattle.preflow.specs.Preflow.{Arcs, Ends as Apart}
-use Rattle.preflow.specs.Model.{relabel_answer}
 use Rattle.preflow.proofs.Ending.{arcs, ends, final_bounded, relabel_is}
 use Rattle.preflow.proofs.work.plan.Goals as goal
 
@@ -22,13 +19,13 @@ lay-requires c =
     let p : Plain d = c.requires.plain in
     let few = p.few_points in
     let few_runs = p.few_runs in
-    let runs = c.as-slice.ensures.value in
+    let runs = c.as_slice.ensures.value in
     let same = ap length runs in
     let rv = c.args.drawing.now.runs.ok.0 in
     let pv = c.args.drawing.now.points.ok.0 in
     let long : point_count d + 1 ≡ length c.args.first.now = omega arith in
     record {
-      ends = subst (λ (n : ℕ). Ends c.as-slice.result.now n) long (subst (λ (xs : List Run). Ends xs (point_count d + 1)) (sym runs) (run_ends d p));
+      ends = subst (λ (n : ℕ). Ends c.as_slice.result.now n) long (subst (λ (xs : List Run). Ends xs (point_count d + 1)) (sym runs) (run_ends d p));
       sizes = (omega arith, (omega arith, (omega arith, (omega arith, omega arith))));
     }
 
@@ -38,19 +35,19 @@ last_rack ps = last_to (length ps) (λ v. is_rack (nth ps v no_point).mark)
 abbrev last_bar : List Point → ℕ
 last_bar ps = last_to (length ps) (λ v. is_bar (nth ps v no_point).mark)
 
-pub max-flow-total-requires : goal.max-flow-total-requires
-max-flow-total-requires c =
+pub max_flow-total-requires : goal.max_flow-total-requires
+max_flow-total-requires c =
     let d = network c.args.drawing.now in
     let p : Plain d = c.requires.plain in
     let few = p.few_points in
-    let runs = c.as-slice.ensures.value in
+    let runs = c.as_slice.ensures.value in
     let heads : c.lay.new.head ≡ heads_of d.runs = c.lay.ensures.heads ∙ ap heads_of runs in
     let room : c.lay.new.left ≡ room_of d.runs = c.lay.ensures.room ∙ ap room_of runs in
     let rv = c.args.drawing.now.runs.ok.0 in
     let pv = c.args.drawing.now.points.ok.0 in
     let n : c.len-points.result ≡ point_count d = c.len-points.ensures ∙ pv in
-    let r : c.terminals-rack.result.0 ≡ rack_of d = c.terminals-rack.ensures.rack ∙ ap last_rack c.as-slice-2.ensures.value in
-    let b : c.terminals-rack.result.1 ≡ bar_of d = c.terminals-rack.ensures.bar ∙ ap last_bar c.as-slice-2.ensures.value in
+    let r : c.terminals-rack.result.0 ≡ rack_of d = c.terminals-rack.ensures.rack ∙ ap last_rack c.as_slice-2.ensures.value in
+    let b : c.terminals-rack.result.1 ≡ bar_of d = c.terminals-rack.ensures.bar ∙ ap last_bar c.as_slice-2.ensures.value in
     let long : length c.args.first.now ≡ c.len-points.result + 1 = omega (arith, n, pv, c.requires.points.0) in
     let hl = ap length heads ∙ length_heads d.runs in
     let rl = ap length room ∙ length_room d.runs in
@@ -90,20 +87,20 @@ write-requires c =
     let few_runs = p.few_runs in
     let rv = c.args.drawing.now.runs.ok.0 in
     let pv = c.args.drawing.now.points.ok.0 in
-    let runs = c.as-slice.ensures.value in
+    let runs = c.as_slice.ensures.value in
     let heads : c.lay.new.head ≡ heads_of d.runs = c.lay.ensures.heads ∙ ap heads_of runs in
     let room : c.lay.new.left ≡ room_of d.runs = c.lay.ensures.room ∙ ap room_of runs in
     let n : c.len-points.result ≡ point_count d = c.len-points.ensures ∙ pv in
-    let r : c.terminals-rack.result.0 ≡ rack_of d = c.terminals-rack.ensures.rack ∙ ap last_rack c.as-slice-2.ensures.value in
-    let b : c.terminals-rack.result.1 ≡ bar_of d = c.terminals-rack.ensures.bar ∙ ap last_bar c.as-slice-2.ensures.value in
-    let left = c.max-flow-total.auto.left in
+    let r : c.terminals-rack.result.0 ≡ rack_of d = c.terminals-rack.ensures.rack ∙ ap last_rack c.as_slice-2.ensures.value in
+    let b : c.terminals-rack.result.1 ≡ bar_of d = c.terminals-rack.ensures.bar ∙ ap last_bar c.as_slice-2.ensures.value in
+    let left = c.max_flow-total.auto.left in
     let laid = c.lay.auto.left in
     let given = c.requires.arcs.1.1.0 in
-    let level = c.max-flow-total.auto.level in
+    let level = c.max_flow-total.auto.level in
     let levels = c.requires.points.1.0 in
     record {
       sizes = (omega (arith, few, pv), (omega (arith, few_runs, rv), (omega (arith, left, laid, given), omega (arith, level, levels))));
-      most = final_bounded d p c.lay.new.head c.lay.new.left c.max-flow-total.new.left c.len-points.result c.terminals-rack.result.0 c.terminals-rack.result.1 heads room n r b c.max-flow-total.ensures.left;
+      most = final_bounded d p c.lay.new.head c.lay.new.left c.max_flow-total.new.left c.len-points.result c.terminals-rack.result.0 c.terminals-rack.result.1 heads room n r b c.max_flow-total.ensures.left;
     }
 
 pub returns : goal.returns
@@ -111,15 +108,15 @@ returns c =
     let d = network c.args.drawing.now in
     let p : Plain d = c.requires.plain in
     let pv = c.args.drawing.now.points.ok.0 in
-    let runs = c.as-slice.ensures.value in
+    let runs = c.as_slice.ensures.value in
     let heads : c.lay.new.head ≡ heads_of d.runs = c.lay.ensures.heads ∙ ap heads_of runs in
     let room : c.lay.new.left ≡ room_of d.runs = c.lay.ensures.room ∙ ap room_of runs in
     let n : c.len-points.result ≡ point_count d = c.len-points.ensures ∙ pv in
-    let r : c.terminals-rack.result.0 ≡ rack_of d = c.terminals-rack.ensures.rack ∙ ap last_rack c.as-slice-2.ensures.value in
-    let b : c.terminals-rack.result.1 ≡ bar_of d = c.terminals-rack.ensures.bar ∙ ap last_bar c.as-slice-2.ensures.value in
+    let r : c.terminals-rack.result.0 ≡ rack_of d = c.terminals-rack.ensures.rack ∙ ap last_rack c.as_slice-2.ensures.value in
+    let b : c.terminals-rack.result.1 ≡ bar_of d = c.terminals-rack.ensures.bar ∙ ap last_bar c.as_slice-2.ensures.value in
     record {
       answer = c.write.ensures
-          ∙ ap filed (relabel_is d c.lay.new.head c.lay.new.left c.max-flow-total.new.left c.max-flow-total.new.level c.len-points.result c.terminals-rack.result.0 c.terminals-rack.result.1 c.max-flow-total.result
-          heads room n r b c.max-flow-total.ensures.left c.max-flow-total.ensures.level c.max-flow-total.ensures.total);
-      capacity = c.max-flow-total.ensures.capacity;
+          ∙ ap filed (relabel_is d c.lay.new.head c.lay.new.left c.max_flow-total.new.left c.max_flow-total.new.level c.len-points.result c.terminals-rack.result.0 c.terminals-rack.result.1 c.max_flow-total.result
+          heads room n r b c.max_flow-total.ensures.left c.max_flow-total.ensures.level c.max_flow-total.ensures.total);
+      capacity = c.max_flow-total.ensures.capacity;
     }

@@ -12,8 +12,8 @@ loop-a-init c = (
   λ b h. absurd (let z : ⊥ = omega arith in z),
 )
 
-pub offset-bounds-head-mate : goal.offset-bounds-head-mate
-offset-bounds-head-mate c =
+pub offset_bounds-head-mate : goal.offset_bounds-head-mate
+offset_bounds-head-mate c =
     let m = mate_within c.loop-a.a (length c.args.head.now) c.requires.sizes.1.1 (omega arith) in
     let e = c.mate.ensures in
     omega arith

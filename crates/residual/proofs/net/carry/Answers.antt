@@ -1,5 +1,4 @@
-use Rattle.std.proofs.Common.{◌≡◌, ℕ, ◌+◌, ◌-◌, length, get_or, sym, ap, ◌∙◌, arith}
-use Rattle.residual.specs.Net.{mate_of}
+use Rattle.std.proofs.Common.{ℕ, length, get_or, sym, ap, ◌∙◌, arith}
 use Rattle.residual.proofs.Moves.{mate_ne, mate_within, moved_is}
 use Rattle.residual.proofs.net.carry.Goals as goal
 

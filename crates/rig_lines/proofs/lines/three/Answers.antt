@@ -1,11 +1,11 @@
 use Rattle.rig_lines.proofs.Shaping.{three_parts_lem, not_three}
 use Rattle.rig_lines.proofs.lines.three.Goals as goal
 
-pub returns-then-not-ends-at : goal.returns-then-not-ends-at
-returns-then-not-ends-at c =
-    not_three c.args.line.at c.args.line.bytes.now c.next-at-a.ensures.value c.next-at-b.ensures.value c.next-at-c.ensures.value c.if-not-ends-at.ensures
+pub returns-then-not-ends_at : goal.returns-then-not-ends_at
+returns-then-not-ends_at c =
+    not_three c.args.line.at c.args.line.bytes.now c.next_at-a.ensures.value c.next_at-b.ensures.value c.next_at-c.ensures.value c.if-not-ends_at.ensures
 
 pub returns : goal.returns
 returns c =
-    three_parts_lem c.args.line.at c.args.line.bytes.now c.next-at-a.ensures.value c.next-at-b.ensures.value c.next-at-c.ensures.value c.if-not-ends-at.ensures
-    c.field-at.ensures c.field-at-2.ensures c.field-at-3.ensures
+    three_parts_lem c.args.line.at c.args.line.bytes.now c.next_at-a.ensures.value c.next_at-b.ensures.value c.next_at-c.ensures.value c.if-not-ends_at.ensures
+    c.field_at.ensures c.field_at-2.ensures c.field_at-3.ensures

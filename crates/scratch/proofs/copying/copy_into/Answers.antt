@@ -14,7 +14,7 @@ pub loop-i-preserved : goal.loop-i-preserved
 loop-i-preserved g c =
     let xs = c.args.from.now in
     let i = c.loop-i.i in (
-      c.push-reserved.ensures.items ∙ ap (λ ys. ys ++ c.index-from-i.result ∷ []) c.loop-i.invariant.0
+      c.push_reserved.ensures.items ∙ ap (λ ys. ys ++ c.index-from-i.result ∷ []) c.loop-i.invariant.0
           ∙ ap (λ y. take i xs ++ y ∷ []) c.index-from-i.is
           ∙ sym (take_more xs i c.index-from-i.result (omega arith)),
       omega arith,

@@ -9,5 +9,5 @@ pub returns : goal.returns
 returns c =
     let zs = c.args.numbers.now in
     let long : length (columns zs) ≡ 8 * length zs = length_columns zs c.requires.small in
-    c.end-line.ensures
-    ∙ byte_more c.args.out.now c.args.a (line_front c.args.letter zs) (omega arith) c.write-front.new.out _ 10 c.write-front.ensures (omega arith) (omega arith)
+    c.end_line.ensures
+    ∙ byte_more c.args.out.now c.args.a (line_front c.args.letter zs) (omega arith) c.write_front.new.out _ 10 c.write_front.ensures (omega arith) (omega arith)

@@ -13,6 +13,6 @@ returns c =
     let ending = 32 ∷ label_letter c.args.label ∷ 10 ∷ [] in
     let long : length (columns (pos c.args.number ∷ [])) ≡ 8 = length_columns numbers (c.requires.small, tt) in
     let passed = small_passed c.args.number c.requires.small in
-    lent c.write-front.new.out c.copy-from-slice.new.self ending _ _ (c.copy-from-slice.ensures.after ∙ ap (λ l. 32 ∷ l ∷ 10 ∷ []) c.letter.ensures) (omega arith)
-    ∙ placed_more c.args.out.now c.args.a (line_front 107 numbers) (omega arith) c.write-front.new.out ending _
-    (c.write-front.ensures ∙ ap (λ z. placed c.args.out.now c.args.a (line_front 107 (z ∷ []))) passed) (omega arith)
+    lent c.write_front.new.out c.copy_from_slice.new.self ending _ _ (c.copy_from_slice.ensures.after ∙ ap (λ l. 32 ∷ l ∷ 10 ∷ []) c.letter.ensures) (omega arith)
+    ∙ placed_more c.args.out.now c.args.a (line_front 107 numbers) (omega arith) c.write_front.new.out ending _
+    (c.write_front.ensures ∙ ap (λ z. placed c.args.out.now c.args.a (line_front 107 (z ∷ []))) passed) (omega arith)

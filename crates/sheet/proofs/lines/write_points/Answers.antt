@@ -15,4 +15,4 @@ loop-i-preserved c =
     let ls = c.args.labels.now in
     text_more 12 (length ls) (λ v. point_line v (label ls v)) (λ v w. length_point_line v (label ls v) (omega arith))
     c.args.out.now c.loop-i.out _ c.args.a i c.loop-i-test.true (omega arith) c.loop-i.invariant
-    (c.write-point.ensures ∙ ap (λ v. placed c.loop-i.out (c.args.a + 12 * i) (point_line v (label ls (suc i)))) (add-one i))
+    (c.write_point.ensures ∙ ap (λ v. placed c.loop-i.out (c.args.a + 12 * i) (point_line v (label ls (suc i)))) (add-one i))

@@ -8,8 +8,8 @@ use Rattle.sheet.proofs.Lengths.{length_run_line}
 use Rattle.sheet.proofs.Placing.{placed_none, text_more}
 use Rattle.sheet.proofs.lines.write_runs.Goals as goal
 
-pub write-run-requires : goal.write-run-requires
-write-run-requires c =
+pub write_run-requires : goal.write_run-requires
+write_run-requires c =
     let i = c.loop-i.i in
     let z : ℤ = get_or c.args.flows.now i (pos 0) in
     let fits : SFits w32 z = search rules in
@@ -29,5 +29,5 @@ loop-i-preserved c =
     let at = c.args.a + 34 * i in
     text_more 34 (length rs) (λ k. run_line k (nth rs k no_run) (nth fs k (pos 0))) (λ k w. length_run_line k (nth rs k no_run) (nth fs k (pos 0)) (c.requires.small k w))
     c.args.out.now c.loop-i.out _ c.args.a i c.loop-i-test.true (omega arith) c.loop-i.invariant
-    (c.write-run.ensures ∙ ap (λ f. placed c.loop-i.out at (run_line (i + 1) (get_or rs i no_run) f)) (to_z-of_z w32 z fits)
+    (c.write_run.ensures ∙ ap (λ f. placed c.loop-i.out at (run_line (i + 1) (get_or rs i no_run) f)) (to_z-of_z w32 z fits)
     ∙ ap (λ k. placed c.loop-i.out at (run_line k (get_or rs i no_run) z)) (add-one i))

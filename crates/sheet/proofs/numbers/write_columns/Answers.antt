@@ -10,8 +10,8 @@ use Rattle.sheet.proofs.numbers.write_columns.Goals as goal
 pub loop-i-init : goal.loop-i-init
 loop-i-init c = placed_none c.args.out.now c.args.a
 
-pub write-at-requires : goal.write-at-requires
-write-at-requires c =
+pub write_at-requires : goal.write_at-requires
+write_at-requires c =
     let zs = c.args.numbers.now in
     let fits : SFits w32 (get_or zs c.loop-i.i (pos 0)) = search rules in
     record { room = omega arith; small = simp to_z-of_z (All-get_or Small zs c.loop-i.i (pos 0) c.loop-i-test.true c.requires.small) }
@@ -23,4 +23,4 @@ loop-i-preserved c =
     let fits : SFits w32 z = search rules in
     text_more 8 (length zs) (λ k. column (nth zs k (pos 0))) (length_each zs c.requires.small) c.args.out.now c.loop-i.out _ c.args.a c.loop-i.i
     c.loop-i-test.true (omega arith) c.loop-i.invariant
-    (c.write-at.ensures ∙ ap (λ v. placed c.loop-i.out (c.args.a + 8 * c.loop-i.i) (column v)) (to_z-of_z w32 z fits))
+    (c.write_at.ensures ∙ ap (λ v. placed c.loop-i.out (c.args.a + 8 * c.loop-i.i) (column v)) (to_z-of_z w32 z fits))

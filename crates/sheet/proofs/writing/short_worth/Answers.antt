@@ -17,18 +17,18 @@ module _ (d : Network) (ls : List Label) (bounded : Bounded d) (short : Shortage
   told = worth_told d ls (admissible d bounded) short.labelled
 
   -- what is told is the worth
-  told-worth : (z : ℤ) → SFits w64 z → told_worth d ls ≡ Some z → to_z w64 (of_z w64 z) ≡ worth d ls
-  told-worth z fits e = let is = told in to_z-of_z w64 z fits ∙ cc
+  told_worth_lem : (z : ℤ) → SFits w64 z → told_worth d ls ≡ Some z → to_z w64 (of_z w64 z) ≡ worth d ls
+  told_worth_lem z fits e = let is = told in to_z-of_z w64 z fits ∙ cc
 
 pub unwrap-requires : goal.unwrap-requires
 unwrap-requires c = ap is_some (c.worth.ensures ∙ told (network c.args.d.now) c.args.labels.now c.requires.bounded c.requires.right)
 
-pub small-number-requires : goal.small-number-requires
-small-number-requires c =
+pub small_number-requires : goal.small_number-requires
+small_number-requires c =
     let d = network c.args.d.now in
     let ls = c.args.labels.now in
     let fits : SFits w64 c.unwrap.result = search rules in
-    let is = told-worth d ls c.requires.bounded c.requires.right c.unwrap.result fits (sym c.worth.ensures ∙ c.unwrap.ensures) in
+    let is = told_worth_lem d ls c.requires.bounded c.requires.right c.unwrap.result fits (sym c.worth.ensures ∙ c.unwrap.ensures) in
     subst (λ (z : ℤ). Small z) (sym is) (small_worth d c.requires.bounded ls)
 
 pub returns : goal.returns
@@ -36,7 +36,7 @@ returns c =
     let d = network c.args.d.now in
     let ls = c.args.labels.now in
     let fits : SFits w64 c.unwrap.result = search rules in
-    let is = told-worth d ls c.requires.bounded c.requires.right c.unwrap.result fits (sym c.worth.ensures ∙ c.unwrap.ensures) in
+    let is = told_worth_lem d ls c.requires.bounded c.requires.right c.unwrap.result fits (sym c.worth.ensures ∙ c.unwrap.ensures) in
     let small = small_worth d c.requires.bounded ls in
     let value = passed_on c.small_number.result (worth d ls) (c.small_number.ensures ∙ is) small in
     record { value = value; small = subst (λ (z : ℤ). Small z) (sym value) small }

@@ -19,5 +19,5 @@ returns c =
     let long = length_number_line c.args.letter c.args.numbers.now c.requires.small in
     record {
       tells = accepted_tells c.args.out.now text _ long c.if-out-length.false;
-      leaves = accepted_leaves c.args.out.now text _ long c.if-out-length.false c.write-numbers.new.out (c.write-numbers.ensures ∙ placed_front c.args.out.now text);
+      leaves = accepted_leaves c.args.out.now text _ long c.if-out-length.false c.write_numbers.new.out (c.write_numbers.ensures ∙ placed_front c.args.out.now text);
     }

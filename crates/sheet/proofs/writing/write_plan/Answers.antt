@@ -6,8 +6,8 @@ use Rattle.sheet.proofs.Fitting.{small_total}
 use Rattle.sheet.proofs.Lengths.{length_figure}
 use Rattle.sheet.proofs.writing.write_plan.Goals as goal
 
-pub write-total-requires : goal.write-total-requires
-write-total-requires c = record {
+pub write_total-requires : goal.write_total-requires
+write_total-requires c = record {
   room = omega arith;
   small = small_total (network c.args.d.now) c.requires.bounded c.args.answer.now.total (vec_items c.args.answer.now.labels) c.requires.right.3;
 }
@@ -21,8 +21,8 @@ returns c =
     let ls = vec_items c.args.answer.now.labels in
     let xs = c.args.out.now in
     let small = small_total d c.requires.bounded t ls c.requires.right.3 in
-    three_texts xs c.write-total.new.out c.write-runs.new.out c.write-points.new.out (total_line t) (run_lines d p) (point_lines d ls) 10 _
+    three_texts xs c.write_total.new.out c.write_runs.new.out c.write_points.new.out (total_line t) (run_lines d p) (point_lines d ls) 10 _
     (length_figure 115 (pos t) small) (omega (arith, length_run_lines d c.requires.bounded p c.requires.right.0)) (omega arith)
-    c.write-total.ensures
-    (all_runs d p _ _ c.write-total.new.out _ 10 c.as-slice.ensures.value c.as-slice-2.ensures.value c.write-runs.ensures)
-    (all_points d ls _ c.write-runs.new.out _ _ c.as-slice-3.ensures.value c.requires.right.2.labelled.label_count c.write-points.ensures)
+    c.write_total.ensures
+    (all_runs d p _ _ c.write_total.new.out _ 10 c.as_slice.ensures.value c.as_slice-2.ensures.value c.write_runs.ensures)
+    (all_points d ls _ c.write_runs.new.out _ _ c.as_slice-3.ensures.value c.requires.right.2.labelled.label_count c.write_points.ensures)

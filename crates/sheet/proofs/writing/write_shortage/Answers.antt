@@ -16,7 +16,7 @@ returns c =
     let ls = c.args.labels.now in
     let xs = c.args.out.now in
     let small = small_worth d c.requires.bounded ls in
-    two_texts xs c.write-worth.new.out c.write-points.new.out (worth_line (worth d ls)) (point_lines d ls) 10
+    two_texts xs c.write_worth.new.out c.write_points.new.out (worth_line (worth d ls)) (point_lines d ls) 10
     (length_figure 104 (worth d ls) small) (omega arith)
-    (c.write-worth.ensures ∙ ap (λ z. placed xs 0 (worth_line z)) (passed_on _ _ c.short_worth.ensures.value small))
-    (all_points d ls ls c.write-worth.new.out _ 10 refl c.requires.right.labelled.label_count c.write-points.ensures)
+    (c.write_worth.ensures ∙ ap (λ z. placed xs 0 (worth_line z)) (passed_on _ _ c.short_worth.ensures.value small))
+    (all_points d ls ls c.write_worth.new.out _ 10 refl c.requires.right.labelled.label_count c.write_points.ensures)

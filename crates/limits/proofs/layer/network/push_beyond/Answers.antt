@@ -11,7 +11,7 @@ loop-q-preserved c =
     let i = c.loop-q.q-index in
     let now = vec_items c.loop-q.out in (
       pushed now _ (vec_items c.args.out.now) (map beyond (take i points)) _ (beyond (get_or points i no_point))
-          (c.push-reserved.ensures.items ∙ ap (λ y. now ++ y ∷ []) c.beyond.ensures) c.loop-q.invariant.0 (map_more beyond points i no_point c.loop-q-test.true),
+          (c.push_reserved.ensures.items ∙ ap (λ y. now ++ y ∷ []) c.beyond.ensures) c.loop-q.invariant.0 (map_more beyond points i no_point c.loop-q-test.true),
       omega arith,
       omega arith,
     )

@@ -6,7 +6,7 @@ use Rattle.limits.proofs.layer.network.push_entries.Goals as goal
 
 pub loop-q-preserved : goal.loop-q-preserved
 loop-q-preserved c = (
-  mapped_more entry c.args.points.now c.loop-q.q-index no_point (vec_items c.loop-q.out) _ _ c.loop-q-test.true c.push-reserved.ensures.items c.loop-q.invariant.0 c.entry.ensures,
+  mapped_more entry c.args.points.now c.loop-q.q-index no_point (vec_items c.loop-q.out) _ _ c.loop-q-test.true c.push_reserved.ensures.items c.loop-q.invariant.0 c.entry.ensures,
   omega arith,
   omega arith,
 )

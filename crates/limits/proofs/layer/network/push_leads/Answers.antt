@@ -14,8 +14,8 @@ loop-i-preserved c =
     let i = c.loop-i.i in
     let old = vec_items c.args.out.now in
     let now = vec_items c.loop-i.out in
-    let value = c.as-slice-points.ensures.value in
-    let n = length c.as-slice-points.result.now in
+    let value = c.as_slice-points.ensures.value in
+    let n = length c.as_slice-points.result.now in
     let same = ap (λ l. (get_or l i no_point).limit) value in
     let t = limited_at d in
     let make = limit_lead d in
@@ -23,7 +23,7 @@ loop-i-preserved c =
       | in-Some w ↦
           let k = sym same ∙ w.in-Some.is in (
             pushed now _ old (added i t make) _ (make (suc i))
-                (ap vec_items w.out-is ∙ w.push-reserved.ensures.items ∙ ap (λ y. now ++ y ∷ []) (w.lead.ensures ∙ limit_lead_lem d i n (ap length value) _ k))
+                (ap vec_items w.out-is ∙ w.push_reserved.ensures.items ∙ ap (λ y. now ++ y ∷ []) (w.lead.ensures ∙ limit_lead_lem d i n (ap length value) _ k))
                 c.loop-i.invariant.0 (added_yes t make i (ap is_some k)),
             omega (arith, ap vec_len w.out-is),
             omega (arith, ap vec_capacity w.out-is),

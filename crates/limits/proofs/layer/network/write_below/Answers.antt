@@ -9,5 +9,5 @@ pub returns : goal.returns
 returns c =
     let d = network c.args.drawing.now in
     ap₂ (λ p r. let n : Network = record { points = p; runs = r } in n)
-    (c.push-beyond.ensures.items ∙ ap₂ ◌++◌ (c.push-entries.ensures.items ∙ ap (map entry) c.deref.ensures.value) (ap (map beyond) c.deref-2.ensures.value))
-    (c.push-leads.ensures.items ∙ ap (λ l. l ++ added (point_count d) (limited_at d) (limit_lead d)) c.push-runs.ensures.items)
+    (c.push_beyond.ensures.items ∙ ap₂ ◌++◌ (c.push_entries.ensures.items ∙ ap (map entry) c.deref.ensures.value) (ap (map beyond) c.deref-2.ensures.value))
+    (c.push_leads.ensures.items ∙ ap (λ l. l ++ added (point_count d) (limited_at d) (limit_lead d)) c.push_runs.ensures.items)

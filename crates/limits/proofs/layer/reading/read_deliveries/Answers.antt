@@ -13,16 +13,16 @@ loop-i-preserved c =
     let d = network c.args.drawing.now in
     let p = plan_in c.args.found.now in
     let i = c.loop-i.i in
-    let value = c.as-slice-points.ensures.value in
-    let flows = c.as-slice-deliveries.ensures.value in
-    let n = length c.as-slice-points.result.now in
+    let value = c.as_slice-points.ensures.value in
+    let flows = c.as_slice-deliveries.ensures.value in
+    let n = length c.as_slice-points.result.now in
     let same = ap (λ l. (get_or l i no_point).limit) value in
     let read : c.match-points-i.delivery ≡ delivery p (exit d (suc i)) =
     elim c.match-points-i.branch [
       | in-Some w ↦ w.delivery-is ∙ ap (λ l. get_or l (n + i) 0) flows ∙ limited_delivery d i n (ap length value) _ (sym same ∙ w.in-Some.is) p
       | in-None w ↦ w.delivery-is ∙ ap (λ l. get_or l i 0) flows ∙ unlimited_delivery d i n (ap length value) (sym same ∙ w.in-None.is) p
     ] in (
-      made_push (vec_items c.loop-i.out) _ (λ v. delivery p (exit d v)) i _ c.push-reserved.ensures.items c.loop-i.invariant.0 read,
+      made_push (vec_items c.loop-i.out) _ (λ v. delivery p (exit d v)) i _ c.push_reserved.ensures.items c.loop-i.invariant.0 read,
       omega arith,
       omega arith,
     )

@@ -7,8 +7,8 @@ use Rattle.reductions.proofs.Limits.{point_count_lem, flows_below}
 use Rattle.scratch.proofs.Filing.{copied, plan_filed, answer_plan, labels_long}
 use Rattle.limits.proofs.layer.reading.write_above.Goals as goal
 
-pub read-labels-requires : goal.read-labels-requires
-read-labels-requires c =
+pub read_labels-requires : goal.read_labels-requires
+read_labels-requires c =
     let d = network c.args.drawing.now in
     let r = c.args.found.now in
     let long = labels_long (limits_below d) r c.requires.right in
@@ -27,19 +27,19 @@ returns-in-Plan c =
     let fs = vec_items r.flows in
     let ss = vec_items r.supplies in
     let long = flows_below d (plan_in r) h.0 in
-    let all = copied _ _ fs (vec_capacity o.flows) c.copy-into.ensures.items c.deref-in-Plan.ensures.value (omega (arith, h.0.flow_count, c.requires.below.few_runs, o.room)) in
+    let all = copied _ _ fs (vec_capacity o.flows) c.copy_into.ensures.items c.deref-in-Plan.ensures.value (omega (arith, h.0.flow_count, c.requires.below.few_runs, o.room)) in
     let m : c.len.result ≡ length d.runs = omega (arith, c.len.ensures, c.args.drawing.now.runs.ok.0) in
-    let every = copied _ _ ss (vec_capacity o.supplies) c.copy-into-in-Plan.ensures.items c.deref-in-Plan-2.ensures.value (omega (arith, h.0.supply_count, c.requires.below.few_points, o.room)) in
+    let every = copied _ _ ss (vec_capacity o.supplies) c.copy_into-in-Plan.ensures.items c.deref-in-Plan-2.ensures.value (omega (arith, h.0.supply_count, c.requires.below.few_points, o.room)) in
     let n : c.len-in-Plan.result ≡ length d.points = omega (arith, c.len-in-Plan.ensures, c.args.drawing.now.points.ok.0) in
     plan_filed _ _ _ _ _ _ r.total _ _
     (c.truncate.ensures.items ∙ ap (take _) all ∙ ap (λ k. take k fs) m ∙ front_made fs (pos 0) (length d.runs) long.0)
     (c.truncate-in-Plan.ensures.items ∙ ap (take _) every ∙ ap (λ k. take k ss) n ∙ front_made ss 0 (length d.points) long.1)
-    c.read-deliveries.ensures.items
-    (c.read-labels.ensures.items ∙ ap (limits_labels d) c.deref.ensures.value)
+    c.read_deliveries.ensures.items
+    (c.read_labels.ensures.items ∙ ap (limits_labels d) c.deref.ensures.value)
     ∙ ap (λ a. filed (limits_above d a)) (sym s)
 
-pub read-deliveries-requires : goal.read-deliveries-requires
-read-deliveries-requires c =
+pub read_deliveries-requires : goal.read_deliveries-requires
+read_deliveries-requires c =
     let d = network c.args.drawing.now in
     let r = c.args.found.now in
     let h = subst (Right (limits_below d)) (answer_plan r c.in-Plan.is) c.requires.right in

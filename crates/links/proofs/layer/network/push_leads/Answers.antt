@@ -6,7 +6,7 @@ use Rattle.links.proofs.layer.network.push_leads.Goals as goal
 
 pub loop-r-preserved : goal.loop-r-preserved
 loop-r-preserved c = (
-  mapped_more as_lead c.args.runs.now c.loop-r.r-index no_run (vec_items c.loop-r.out) _ _ c.loop-r-test.true c.push-reserved.ensures.items c.loop-r.invariant.0 c.as-lead.ensures,
+  mapped_more as_lead c.args.runs.now c.loop-r.r-index no_run (vec_items c.loop-r.out) _ _ c.loop-r-test.true c.push_reserved.ensures.items c.loop-r.invariant.0 c.as_lead.ensures,
   omega arith,
   omega arith,
 )

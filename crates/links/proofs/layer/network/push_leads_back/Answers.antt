@@ -19,7 +19,7 @@ loop-r-preserved c =
     elim c.match-r.branch [
       | in-Link w ↦ (
         pushed now _ old (added i t make) _ (lead_back (get_or runs i no_run))
-            (ap vec_items w.out-is ∙ w.push-reserved.ensures.items ∙ ap (λ y. now ++ y ∷ []) w.lead-back.ensures)
+            (ap vec_items w.out-is ∙ w.push_reserved.ensures.items ∙ ap (λ y. now ++ y ∷ []) w.lead_back.ensures)
             c.loop-r.invariant.0 (added_yes t make i (ap is_link w.in-Link.is)),
         omega (arith, ap vec_len w.out-is),
         omega (arith, ap vec_capacity w.out-is),

@@ -1,4 +1,4 @@
-use Rattle.std.proofs.Common.{◌≡◌, suc, ◌+◌, ◌<◌, true, false, [], ◌∷◌, ◌++◌, get_or, pos, ◌-ℤ◌, ◌≤ℤ◌, vec_items, vec_len, vec_capacity, sym, ap, ◌∙◌, subst, ap₂, arith, w32, SFits, rules}
+use Rattle.std.proofs.Common.{◌≡◌, suc, ◌<◌, true, false, [], ◌∷◌, ◌++◌, get_or, pos, ◌-ℤ◌, ◌≤ℤ◌, vec_items, vec_len, vec_capacity, sym, ap, ◌∙◌, subst, ap₂, arith, w32, SFits, rules}
 use Rattle.std.proofs.lemmas.List.{get_or_read}
 use Rattle.std.proofs.lemmas.Int.{to_z-of_z}
 use Rattle.drawing.specs.Counts.{only}
@@ -40,8 +40,8 @@ minus-requires c =
       subst (λ z. pos 0 ≤ℤ z) (sym (get_or_read _ c.loop-k.back _ b.0 c.index-in-Link.ensures (pos 0))) b.1,
     )
 
-pub overflow-add-back : goal.overflow-add-back
-overflow-add-back c =
+pub overflow_add-back : goal.overflow_add-back
+overflow_add-back c =
     let d = network c.args.drawing.now in
     let i = c.loop-k.k in
     let lt : i < run_count d = omega (arith, c.args.drawing.now.runs.ok.0) in
@@ -70,7 +70,7 @@ loop-k-preserved c =
           let fm : SFits w32 w.minus.result = search rules in
           let value : w.minus.result ≡ flows (suc i) =
           simp to_z-of_z at w.minus.ensures ∙ ap₂ ◌-ℤ◌ fi fb ∙ sym (read_link d p c.requires.feasible i lt c.loop-k.back c.loop-k.invariant.3 e) in (
-            ap vec_items w.out-is ∙ simp to_z-of_z at w.push-reserved.ensures.items ∙ ap (λ y. now ++ y ∷ []) value
+            ap vec_items w.out-is ∙ simp to_z-of_z at w.push_reserved.ensures.items ∙ ap (λ y. now ++ y ∷ []) value
                 ∙ ap (λ l. l ++ flows (suc i) ∷ []) c.loop-k.invariant.0 ∙ sym (made_more flows i),
             omega (arith, ap vec_len w.out-is),
             omega (arith, ap vec_capacity w.out-is),
@@ -79,7 +79,7 @@ loop-k-preserved c =
       | in-Lead w ↦
           let e : link_at d (suc i) ≡ false = ap (λ r. is_link r.kind) (sym (get_or_read _ i _ lt c.index.ensures no_run)) ∙ ap is_link w.in-Lead.is in
           let value : c.index-flow.result.now ≡ flows (suc i) = fi ∙ sym (read_lead d p c.requires.feasible i lt e) in (
-            ap vec_items w.out-is ∙ simp to_z-of_z at w.push-reserved-in-Lead.ensures.items ∙ ap (λ y. now ++ y ∷ []) value
+            ap vec_items w.out-is ∙ simp to_z-of_z at w.push_reserved-in-Lead.ensures.items ∙ ap (λ y. now ++ y ∷ []) value
                 ∙ ap (λ l. l ++ flows (suc i) ∷ []) c.loop-k.invariant.0 ∙ sym (made_more flows i),
             omega (arith, ap vec_len w.out-is),
             omega (arith, ap vec_capacity w.out-is),

@@ -5,8 +5,8 @@ use Rattle.lower_bounds.specs.Parts.{runs_only}
 use Rattle.lower_bounds.proofs.Sums.{next_fits}
 use Rattle.lower_bounds.proofs.layer.network.all_lowers.Goals as goal
 
-pub overflow-add-sum : goal.overflow-add-sum
-overflow-add-sum c =
+pub overflow_add-sum : goal.overflow_add-sum
+overflow_add-sum c =
     let d = runs_only c.args.runs.now in
     let i = c.loop-r.r-index in
     let f : ℕ → ℕ = λ k. (run d k).lower in

@@ -7,14 +7,14 @@ use Rattle.lower_bounds.specs.Parts.{runs_only}
 use Rattle.lower_bounds.proofs.Sums.{next_fits}
 use Rattle.lower_bounds.proofs.layer.network.lowers_entering.Goals as goal
 
-pub overflow-add-sum : goal.overflow-add-sum
-overflow-add-sum c =
+pub overflow_add-sum : goal.overflow_add-sum
+overflow_add-sum c =
     let d = runs_only c.args.runs.now in
     let v = c.args.v in
     let i = c.loop-r.r-index in
     let f : ℕ → ℕ = λ k. only (eqb (run d k).head v) (run d k).lower in
     let fits = next_fits (length c.args.runs.now) i 600000000 f (λ k. (run d k).lower) (λ k. only_le (eqb (run d k).head v) (run d k).lower) c.loop-r-test.true c.requires in
-    let most : c.loop-r.sum + c.lower-entering-sum.result ≤ 600000000 = omega (arith, fits, c.lower-entering-sum.ensures, only_le (eqb (run d (suc i)).head v) (run d (suc i)).lower) in
+    let most : c.loop-r.sum + c.lower_entering-sum.result ≤ 600000000 = omega (arith, fits, c.lower_entering-sum.ensures, only_le (eqb (run d (suc i)).head v) (run d (suc i)).lower) in
     search rules
 
 pub loop-r-preserved : goal.loop-r-preserved
@@ -22,4 +22,4 @@ loop-r-preserved c =
     let d = runs_only c.args.runs.now in
     let v = c.args.v in
     let f : ℕ → ℕ = λ k. only (eqb (run d k).head v) (run d k).lower in
-    omega (arith, sum_next f c.loop-r.r-index, c.lower-entering-sum.ensures)
+    omega (arith, sum_next f c.loop-r.r-index, c.lower_entering-sum.ensures)

@@ -10,7 +10,7 @@ loop-k-preserved c =
     let k = c.loop-k.k in
     let f : SFits w32 (get_or c.args.flows.now k (pos 0)) = search rules in (
       made_push (vec_items c.loop-k.out) _ (forward_lead (runs_only c.args.runs.now) (flows_only c.args.flows.now)) k _
-          c.push-reserved.ensures.items c.loop-k.invariant.0 (simp to_z-of_z at c.forward.ensures),
+          c.push_reserved.ensures.items c.loop-k.invariant.0 (simp to_z-of_z at c.forward.ensures),
       omega arith,
       omega arith,
     )

@@ -15,7 +15,7 @@ loop-k-preserved c =
     let make : ℕ → Run = reversed_lead (runs_only c.args.runs.now) (flows_only c.args.flows.now) in
     let value : c.reversed.result ≡ make (suc k) = simp to_z-of_z at c.reversed.ensures in (
       pushed now _ (vec_items c.args.out.now) (map make (range_with_len 1 k)) _ (make (suc k))
-          (c.push-reserved.ensures.items ∙ ap (λ y. now ++ y ∷ []) value) c.loop-k.invariant.0 (made_more make k),
+          (c.push_reserved.ensures.items ∙ ap (λ y. now ++ y ∷ []) value) c.loop-k.invariant.0 (made_more make k),
       omega arith,
       omega arith,
     )

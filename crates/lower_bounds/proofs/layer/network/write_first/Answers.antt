@@ -8,14 +8,14 @@ use Rattle.lower_bounds.specs.Parts.{points_only, runs_only}
 use Rattle.lower_bounds.proofs.Writing.{return_lead_lem, first_runs}
 use Rattle.lower_bounds.proofs.layer.network.write_first.Goals as goal
 
-pub push-pairs-requires : goal.push-pairs-requires
-push-pairs-requires c =
+pub push_pairs-requires : goal.push_pairs-requires
+push_pairs-requires c =
     let d = network c.args.drawing.now in
     let law = c.requires.lawful in
     record {
       few = omega (arith, sum_below (run_count d) (λ k. (run d k).lower) (λ k. (run d k).upper) (λ k w. (law.each_run k w).ordered), c.requires.few);
       small = omega arith;
-      room = omega (arith, c.push-slacks.ensures.len, c.push-slacks.ensures.capacity, ap length c.deref-4.ensures.value, c.args.drawing.now.runs.ok.0, c.args.out.now.room, c.requires.runs);
+      room = omega (arith, c.push_slacks.ensures.len, c.push_slacks.ensures.capacity, ap length c.deref-4.ensures.value, c.args.drawing.now.runs.ok.0, c.args.out.now.room, c.requires.runs);
     }
 
 pub returns : goal.returns
@@ -23,9 +23,9 @@ returns c =
     let d = network c.args.drawing.now in
     let points = c.deref.ensures.value in
     ap₂ (λ p r. let n : Network = record { points = p; runs = r } in n)
-    (c.push-points.ensures.items ∙ ap one_rack_one_bar c.deref-3.ensures.value)
-    (first_runs d _ _ _ _ (c.push-slacks.ensures.items ∙ ap (map slack) c.deref-4.ensures.value) c.push-pairs.ensures.items c.push-reserved.ensures.items
+    (c.push_points.ensures.items ∙ ap one_rack_one_bar c.deref-3.ensures.value)
+    (first_runs d _ _ _ _ (c.push_slacks.ensures.items ∙ ap (map slack) c.deref-4.ensures.value) c.push_pairs.ensures.items c.push_reserved.ensures.items
     (c.lead.ensures ∙ return_lead_lem d _ _ _
     (ap (λ (p : ℕ × ℕ). p.0) c.ends-rack.ensures ∙ ap (λ l. old_rack (points_only l)) points)
     (ap (λ (p : ℕ × ℕ). p.1) c.ends-rack.ensures ∙ ap (λ l. old_bar (points_only l)) points)
-    (c.uppers-leaving-upper.ensures ∙ ap (λ l. uppers_out (runs_only l) c.ends-rack.result.0) c.deref-2.ensures.value)))
+    (c.uppers_leaving-upper.ensures ∙ ap (λ l. uppers_out (runs_only l) c.ends-rack.result.0) c.deref-2.ensures.value)))

@@ -14,5 +14,5 @@ returns c =
     let forward = λ (rs : List Run) (fs : List ℤ). map (forward_lead (runs_only rs) (flows_only fs)) (range_with_len 1 (length rs)) in
     let reversed = λ (rs : List Run) (fs : List ℤ). map (reversed_lead (runs_only rs) (flows_only fs)) (range_with_len 1 (length rs)) in
     ap₂ (λ p r. let n : Network = record { points = p; runs = r } in n)
-    (copied _ _ d.points (vec_capacity c.args.out.now.drawing.points) c.copy-into.ensures.items c.deref.ensures.value (omega (arith, c.args.drawing.now.points.ok.0, c.args.out.now.room)))
-    (c.push-reversed.ensures.items ∙ ap₂ ◌++◌ (c.push-forward.ensures.items ∙ ap₂ forward c.deref-2.ensures.value c.deref-3.ensures.value) (ap₂ reversed c.deref-4.ensures.value c.deref-5.ensures.value))
+    (copied _ _ d.points (vec_capacity c.args.out.now.drawing.points) c.copy_into.ensures.items c.deref.ensures.value (omega (arith, c.args.drawing.now.points.ok.0, c.args.out.now.room)))
+    (c.push_reversed.ensures.items ∙ ap₂ ◌++◌ (c.push_forward.ensures.items ∙ ap₂ forward c.deref-2.ensures.value c.deref-3.ensures.value) (ap₂ reversed c.deref-4.ensures.value c.deref-5.ensures.value))

@@ -12,8 +12,8 @@ loop-p-preserved c =
     let i = c.loop-p.p-index in
     let s : ℕ → ℕ = λ v. only (is_rack (point d v).mark) t in
     let r : ℕ → ℕ = λ v. only (is_bar (point d v).mark) t in (
-      made_push (vec_items c.loop-p.supplies) _ s i _ c.push-reserved.ensures.items c.loop-p.invariant.0 (c.only-if.ensures ∙ ap (λ b. only b t) c.is-rack.ensures),
-      made_push (vec_items c.loop-p.deliveries) _ r i _ c.push-reserved-in-loop-p.ensures.items c.loop-p.invariant.1 (c.only-if-in-loop-p.ensures ∙ ap (λ b. only b t) c.is-bar.ensures),
+      made_push (vec_items c.loop-p.supplies) _ s i _ c.push_reserved.ensures.items c.loop-p.invariant.0 (c.only_if.ensures ∙ ap (λ b. only b t) c.is_rack.ensures),
+      made_push (vec_items c.loop-p.deliveries) _ r i _ c.push_reserved-in-loop-p.ensures.items c.loop-p.invariant.1 (c.only_if-in-loop-p.ensures ∙ ap (λ b. only b t) c.is_bar.ensures),
       omega arith,
       omega arith,
       omega arith,

@@ -14,16 +14,16 @@ raised-requires c =
     let p = plan_in c.args.first.now in
     let p₂ = plan_in c.args.second.now in
     let k = c.loop-k.k in
-    let runs = c.as-slice-runs.ensures.value in
+    let runs = c.as_slice-runs.ensures.value in
     let lt : k < run_count d = omega (arith, ap length runs) in
     let lower = ap (λ l. (get_or l k no_run).lower) runs in
-    let first = ap (λ l. forth (get_or l k (pos 0))) c.as-slice-found.ensures.value in
-    let up = ap (λ l. forth (get_or l k (pos 0))) c.as-slice-flows.ensures.value in
-    let down = ap (λ l. forth (get_or l (length c.as-slice-runs.result.now + k) (pos 0))) c.as-slice-flows.ensures.value
+    let first = ap (λ l. forth (get_or l k (pos 0))) c.as_slice-found.ensures.value in
+    let up = ap (λ l. forth (get_or l k (pos 0))) c.as_slice-flows.ensures.value in
+    let down = ap (λ l. forth (get_or l (length c.as_slice-runs.result.now + k) (pos 0))) c.as_slice-flows.ensures.value
     ∙ ap forth (beyond p₂.flows _ (run_count d) k (pos 0) (ap length runs)) in
-    let f : SFits w32 (get_or c.as-slice-found.result.now k (pos 0)) = search rules in
-    let g : SFits w32 (get_or c.as-slice-flows.result.now k (pos 0)) = search rules in
-    let h : SFits w32 (get_or c.as-slice-flows.result.now (length c.as-slice-runs.result.now + k) (pos 0)) = search rules in
+    let f : SFits w32 (get_or c.as_slice-found.result.now k (pos 0)) = search rules in
+    let g : SFits w32 (get_or c.as_slice-flows.result.now k (pos 0)) = search rules in
+    let h : SFits w32 (get_or c.as_slice-flows.result.now (length c.as_slice-runs.result.now + k) (pos 0)) = search rules in
     let (least, most) = c.requires.fits (suc k) (omega arith) in
     let (enough, few) = sum_fits (found_at d p (suc k) + forth (flow p₂ (suc k))) (forth (flow p₂ (run_count d + suc k))) 600000000 least most in
     simp to_z-of_z record { least = omega (arith, enough, lower, first, up, down); most = omega (arith, few, lower, first, up, down) }
@@ -34,19 +34,19 @@ loop-k-preserved c =
     let p = plan_in c.args.first.now in
     let p₂ = plan_in c.args.second.now in
     let k = c.loop-k.k in
-    let runs = c.as-slice-runs.ensures.value in
+    let runs = c.as_slice-runs.ensures.value in
     let lower = ap (λ l. (get_or l k no_run).lower) runs in
-    let first = ap (λ l. forth (get_or l k (pos 0))) c.as-slice-found.ensures.value in
-    let up = ap (λ l. forth (get_or l k (pos 0))) c.as-slice-flows.ensures.value in
-    let down = ap (λ l. forth (get_or l (length c.as-slice-runs.result.now + k) (pos 0))) c.as-slice-flows.ensures.value
+    let first = ap (λ l. forth (get_or l k (pos 0))) c.as_slice-found.ensures.value in
+    let up = ap (λ l. forth (get_or l k (pos 0))) c.as_slice-flows.ensures.value in
+    let down = ap (λ l. forth (get_or l (length c.as_slice-runs.result.now + k) (pos 0))) c.as_slice-flows.ensures.value
     ∙ ap forth (beyond p₂.flows _ (run_count d) k (pos 0) (ap length runs)) in
-    let f : SFits w32 (get_or c.as-slice-found.result.now k (pos 0)) = search rules in
-    let g : SFits w32 (get_or c.as-slice-flows.result.now k (pos 0)) = search rules in
-    let h : SFits w32 (get_or c.as-slice-flows.result.now (length c.as-slice-runs.result.now + k) (pos 0)) = search rules in
+    let f : SFits w32 (get_or c.as_slice-found.result.now k (pos 0)) = search rules in
+    let g : SFits w32 (get_or c.as_slice-flows.result.now k (pos 0)) = search rules in
+    let h : SFits w32 (get_or c.as_slice-flows.result.now (length c.as_slice-runs.result.now + k) (pos 0)) = search rules in
     let e : SFits w32 c.raised.result = search rules in
     let value : c.raised.result ≡ raised_flow d p p₂ (suc k) =
     simp to_z-of_z at c.raised.ensures ∙ ap₂ (λ a b. pos a -ℤ pos b) (ap₂ ◌+◌ (ap₂ ◌+◌ lower first) up) down in (
-      made_push (vec_items c.loop-k.out) _ (raised_flow d p p₂) k _ (simp to_z-of_z at c.push-reserved.ensures.items) c.loop-k.invariant.0 value,
+      made_push (vec_items c.loop-k.out) _ (raised_flow d p p₂) k _ (simp to_z-of_z at c.push_reserved.ensures.items) c.loop-k.invariant.0 value,
       omega arith,
       omega arith,
     )

@@ -9,14 +9,14 @@ use Rattle.lower_bounds.specs.Parts.{points_only}
 use Rattle.lower_bounds.proofs.Reading.{before}
 use Rattle.lower_bounds.proofs.layer.reading.read_labels.Goals as goal
 
-pub overflow-sub-rack : goal.overflow-sub-rack
-overflow-sub-rack c = omega (arith, ap (λ (q : ℕ × ℕ). q.0) c.ends-rack.ensures, (one _ _ c.requires.rack).inside)
+pub overflow_sub-rack : goal.overflow_sub-rack
+overflow_sub-rack c = omega (arith, ap (λ (q : ℕ × ℕ). q.0) c.ends-rack.ensures, (one _ _ c.requires.rack).inside)
 
 pub bounds-labels-rack : goal.bounds-labels-rack
 bounds-labels-rack c = omega (arith, ap (λ (q : ℕ × ℕ). q.0) c.ends-rack.ensures, (one _ _ c.requires.rack).inside, c.requires.long)
 
-pub overflow-sub-bar : goal.overflow-sub-bar
-overflow-sub-bar c = omega (arith, ap (λ (q : ℕ × ℕ). q.1) c.ends-rack.ensures, (one _ _ c.requires.bar).inside)
+pub overflow_sub-bar : goal.overflow_sub-bar
+overflow_sub-bar c = omega (arith, ap (λ (q : ℕ × ℕ). q.1) c.ends-rack.ensures, (one _ _ c.requires.bar).inside)
 
 pub bounds-labels-bar : goal.bounds-labels-bar
 bounds-labels-bar c = omega (arith, ap (λ (q : ℕ × ℕ). q.1) c.ends-rack.ensures, (one _ _ c.requires.bar).inside, c.requires.long)
@@ -28,10 +28,10 @@ loop-i-preserved c =
     let i = c.loop-i.i in
     let rack = before ls _ (old_rack d) Near (ap (λ (q : ℕ × ℕ). q.0) c.ends-rack.ensures) (one _ _ c.requires.rack).inside.0 in
     let bar = before ls _ (old_bar d) Near (ap (λ (q : ℕ × ℕ). q.1) c.ends-rack.ensures) (one _ _ c.requires.bar).inside.0 in
-    let turned = c.is-turned-turned.ensures ∙ ap₂ (λ a b. is_far a && is_near b) rack bar in
-    let value : c.short_label_lem.result ≡ short_label d ls (suc i) =
-    c.short_label_lem.ensures ∙ ap (λ t. cond (is_rack (get_or c.args.points.now i no_point).mark && t) Near (get_or ls i Near)) turned in (
-      made_push (vec_items c.loop-i.out) _ (short_label d ls) i _ c.push-reserved.ensures.items c.loop-i.invariant.0 value,
+    let turned = c.is_turned-turned.ensures ∙ ap₂ (λ a b. is_far a && is_near b) rack bar in
+    let value : c.short_label.result ≡ short_label d ls (suc i) =
+    c.short_label.ensures ∙ ap (λ t. cond (is_rack (get_or c.args.points.now i no_point).mark && t) Near (get_or ls i Near)) turned in (
+      made_push (vec_items c.loop-i.out) _ (short_label d ls) i _ c.push_reserved.ensures.items c.loop-i.invariant.0 value,
       omega arith,
       omega arith,
     )

@@ -1,4 +1,4 @@
-use Rattle.std.proofs.Common.{◌≡◌, ℕ, ◌+◌, ◌-◌, ◌*◌, ◌/◌, ◌%◌, ◌<◌, List, length, get_or, sym, refl, ap, ◌∙◌, subst, arith}
+use Rattle.std.proofs.Common.{◌≡◌, ℕ, ◌+◌, ◌-◌, ◌*◌, ◌%◌, ◌<◌, List, length, get_or, sym, refl, ap, ◌∙◌, subst, arith}
 use Rattle.std.proofs.lemmas.List.FromFn.{fill_by_all}
 use Rattle.residual.specs.Net.{mate_of, Chained}
 use Rattle.residual.specs.Search.{levels}
@@ -6,7 +6,7 @@ use Rattle.residual.specs.Laying.{Laid}
 use Rattle.residual.proofs.Moves.{mate_odd}
 use Rattle.residual.proofs.Pairs.{each_arc, mate_double}
 use Rattle.residual.proofs.Arcs.{laid_more}
-use Rattle.preflow.specs.Turns.{flipped, aims}
+use Rattle.preflow.specs.Turns.{flipped}
 use Rattle.preflow.proofs.between.Between.aim.Goals as goal
 
 flipped_is : (rs bs : List ℕ) (m : ℕ) → length rs ≡ 2 * m → length bs ≡ 2 * m → Laid (λ k. get_or rs (2 * k + 1) 0) (λ k. get_or rs (2 * k) 0) m bs → bs ≡ flipped rs

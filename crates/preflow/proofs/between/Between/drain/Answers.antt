@@ -1,8 +1,8 @@
-use Rattle.std.proofs.Common.{◌≡◌, ℕ, ◌+◌, ◌-◌, ◌<◌, ◌≤◌, min, List, length, get_or, set, deque_items, deque_len, deque_capacity, sym, refl, ap, ◌∙◌, subst, arith, length-set, rules}
+use Rattle.std.proofs.Common.{◌≡◌, ℕ, ◌+◌, ◌-◌, ◌<◌, ◌≤◌, List, length, get_or, set, deque_items, deque_capacity, sym, refl, ap, ◌∙◌, subst, arith}
 use Rattle.drawing.specs.Counts.{Within}
-use Rattle.residual.specs.Net.{head_of, mate_of, moved, Place, Bounded}
+use Rattle.residual.specs.Net.{head_of, moved, Bounded}
 use Rattle.residual.proofs.Chains.{before_place, follow_place, follow_less}
-use Rattle.preflow.specs.Push.{Out, shifted, joined, scans}
+use Rattle.preflow.specs.Push.{shifted, joined, scans}
 use Rattle.preflow.specs.Preflow.{whole, Lined}
 use Rattle.preflow.proofs.Kept.{Kept}
 use Rattle.preflow.proofs.Moving.{kept_bounded, push_kept, push_lined, join_fits, excess_fits}
@@ -26,8 +26,8 @@ join-requires c =
     let f = join_fits c.loop-at.left c.args.height.now c.loop-at.excess c.requires.net.0 c.requires.net.1.1 c.loop-at.invariant.0 (omega arith) (omega arith) (omega arith) vin c.loop-at.invariant.3 c.if-left-a-gt0.true c.if-height-w.true c.requires.here.1.1.1.1 c.min-most.ensures c.args.self.source c.args.self.sink (deque_items c.loop-at.queue) c.loop-at.invariant.4 z in
     omega (arith, f, q, cap, room)
 
-pub overflow-add-excess : goal.overflow-add-excess
-overflow-add-excess c =
+pub overflow_add-excess : goal.overflow_add-excess
+overflow_add-excess c =
     let vin : Within c.args.self.points c.args.v = (c.requires.here.0, c.requires.here.1.0) in
     let f = excess_fits c.loop-at.left c.args.height.now c.loop-at.excess c.requires.net.0 c.requires.net.1.1 c.loop-at.invariant.0 (omega arith) (omega arith) (omega arith) vin c.loop-at.invariant.3 c.if-left-a-gt0.true c.if-height-w.true c.requires.here.1.1.1.1 c.min-most.ensures c.loop-at.invariant.2 (get_or c.loop-at.excess c.args.v 0 - c.min-most.result) in
     omega (arith, f)

@@ -1,4 +1,4 @@
-use Rattle.std.proofs.Common.{◌≡◌, ◌+◌, ◌-◌, ◌<◌, ◌≤◌, length, get_or, deque_items, deque_capacity}
+use Rattle.std.proofs.Common.{◌≡◌, ◌<◌, ◌≤◌, length, get_or, deque_items, deque_capacity}
 use Rattle.residual.specs.Net.{Place, Bounded}
 use Rattle.preflow.specs.Push.{scans}
 use Rattle.preflow.specs.Preflow.{whole, Lined}

@@ -1,4 +1,4 @@
-use Rattle.std.proofs.Common.{◌≡◌, not, eqb, sym, refl, ap, ◌∙◌}
+use Rattle.std.proofs.Common.{not, eqb, sym, refl, ap, ◌∙◌}
 use Rattle.std.proofs.lemmas.Bool.{eq-eqb, ne_eqb, cond-true, cond-false, and_from, and_left, and_right, not_from_false}
 use Rattle.preflow.specs.Push.{joined}
 use Rattle.preflow.proofs.between.Between.join.Goals as goal
@@ -7,9 +7,9 @@ use Rattle.preflow.proofs.between.Between.join.Goals.{else-had-eq0-via-then-had-
 pub returns-then-w-self-2 : goal.returns-then-w-self-2
 unfolding joined
 returns-then-w-self-2 c = record {
-  items = c.push-back-reserved.ensures.items
+  items = c.push_back_reserved.ensures.items
       ∙ sym (cond-true _ _ _ (and_from _ _ (eq-eqb _ _ c.if-had-eq0.true) (and_from _ _ (not_from_false (eqb c.args.w c.args.self.source) (ne_eqb _ _ c.if-w-self.true)) (not_from_false (eqb c.args.w c.args.self.sink) (ne_eqb _ _ c.if-w-self-2.true)))));
-  capacity = c.push-back-reserved.ensures.capacity;
+  capacity = c.push_back_reserved.ensures.capacity;
 }
 
 pub returns-else-had-eq0 : goal.returns-else-had-eq0

@@ -1,5 +1,4 @@
-use Rattle.std.proofs.Common.{◌≡◌, ℕ, ◌+◌, ◌-◌, ◌<◌, ◌≤◌, min, length, get_or, sym, refl, ap, ◌∙◌, arith}
-use Rattle.residual.specs.Net.{head_of}
+use Rattle.std.proofs.Common.{◌≡◌, ◌-◌, ◌<◌, length, get_or, sym, ap, ◌∙◌, arith}
 use Rattle.preflow.specs.Push.{lows}
 use Rattle.residual.proofs.Chains.{before_place, follow_place, follow_less}
 use Rattle.preflow.proofs.Steps.{lows_skip, lows_open, lows_shut, lows_end}

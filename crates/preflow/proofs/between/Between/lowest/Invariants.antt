@@ -1,4 +1,4 @@
-use Rattle.std.proofs.Common.{◌≡◌, ◌+◌, ◌-◌, ◌<◌, ◌≤◌, length}
+use Rattle.std.proofs.Common.{◌≡◌, ◌≤◌, length}
 use Rattle.residual.specs.Net.{Place}
 use Rattle.preflow.specs.Push.{lows}
 use Rattle.preflow.proofs.between.Between.lowest.Given as goal

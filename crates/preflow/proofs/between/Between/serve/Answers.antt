@@ -1,6 +1,6 @@
-use Rattle.std.proofs.Common.{◌≡◌, ℕ, ◌+◌, ◌<◌, ◌≤◌, ◌≢◌, List, [], ◌∷◌, ◌++◌, length, get_or, set, deque_items, deque_len, deque_capacity, sym, refl, ap, ◌∙◌, subst, arith, length-set, get_or-set_same}
+use Rattle.std.proofs.Common.{◌≡◌, ℕ, ◌+◌, ◌≢◌, List, length, get_or, set, deque_items, sym, ap, ◌∙◌, subst, arith, get_or-set_same}
 use Rattle.drawing.specs.Counts.{Within}
-use Rattle.preflow.specs.Push.{Out, scans, lows, serves}
+use Rattle.preflow.specs.Push.{Out, serves}
 use Rattle.preflow.specs.Preflow.{Lined}
 use Rattle.preflow.proofs.Kept.{scans_kept}
 use Rattle.preflow.proofs.Lines.{scans_lined, line_short, line_served}
@@ -8,8 +8,8 @@ use Rattle.preflow.proofs.Steps.{serves_again, serves_done}
 use Rattle.preflow.proofs.between.Between.serve.Goals as goal
 
 -- after the pushes there is room for v
-pub push-back-reserved-requires : goal.push-back-reserved-requires
-push-back-reserved-requires c =
+pub push_back_reserved-requires : goal.push_back_reserved-requires
+push_back_reserved-requires c =
     let hs = c.args.self.head.now in
     let n = c.args.self.points in
     let v = c.args.v in
@@ -45,8 +45,8 @@ returns-then-excess-v-gt0 c =
     record {
       lifted = ap (λ (x : ℕ). set c.args.height.now v (x + 1)) is;
       out = ap (λ (x : ℕ). serves hs ds c.args.self.source c.args.self.sink v x c.args.left.now c.args.excess.now (deque_items c.args.queue.now)) (sym is)
-          ∙ again ∙ ap (λ (y : List ℕ). (c.drain.new.left, c.drain.new.excess, y)) (sym c.push-back-reserved.ensures.items);
-      capacity = c.push-back-reserved.ensures.capacity ∙ c.drain.ensures.capacity;
+          ∙ again ∙ ap (λ (y : List ℕ). (c.drain.new.left, c.drain.new.excess, y)) (sym c.push_back_reserved.ensures.items);
+      capacity = c.push_back_reserved.ensures.capacity ∙ c.drain.ensures.capacity;
     }
 
 pub returns-else-excess-v-gt0 : goal.returns-else-excess-v-gt0

@@ -1,6 +1,5 @@
-use Rattle.std.proofs.Common.{◌≡◌, ℕ, ◌+◌, ◌%◌, ◌<◌, ◌≤◌, List, length, get_or, set, deque_items, deque_capacity, sym, refl, ap, ◌∙◌, subst, arith}
-use Rattle.preflow.specs.Push.{Out}
-use Rattle.preflow.specs.Turns.{State, aims, raised, refreshed, turned}
+use Rattle.std.proofs.Common.{◌≡◌, deque_items, ◌∙◌}
+use Rattle.preflow.specs.Turns.{refreshed}
 use Rattle.preflow.proofs.Steps.{refreshed_yes, refreshed_no, turned_is}
 use Rattle.preflow.proofs.between.Between.turn.Goals as goal
 use Rattle.preflow.proofs.between.Between.turn.Goals.{then-k-eq127, else-k-eq127}

@@ -1,4 +1,4 @@
-use Rattle.std.proofs.Common.{◌≡◌, ◌-◌}
+use Rattle.std.proofs.Common.{◌≡◌}
 use Rattle.residual.specs.Search.{rounds}
 use Rattle.residual.proofs.net.Net.round.Given as goal
 

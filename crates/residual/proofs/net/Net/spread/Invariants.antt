@@ -1,4 +1,4 @@
-use Rattle.std.proofs.Common.{◌≡◌, ◌+◌, ◌-◌, false, length}
+use Rattle.std.proofs.Common.{◌≡◌, ◌+◌, false, length}
 use Rattle.residual.specs.Net.{Place}
 use Rattle.residual.specs.Search.{spreads}
 use Rattle.residual.proofs.net.Net.spread.Given as goal

@@ -2,8 +2,8 @@ use Rattle.drawing.specs.Records.{network}
 use Rattle.ledger.proofs.Asking.{solved_ending, sheet_told, sheet_left}
 use Rattle.rig.proofs.rig.Rig.sheet.Goals as goal
 
-pub write-sheet-requires : goal.write-sheet-requires
-write-sheet-requires c =
+pub write_sheet-requires : goal.write_sheet-requires
+write_sheet-requires c =
     let was = c.args.self.now in
     record { right = (solved_ending (network was.drawing.drawing) was.answer was.standing c.in-Planned.is was.sound).1 }
 
@@ -12,6 +12,6 @@ returns-in-Planned c =
     let was = c.args.self.now in
     let d = network was.drawing.drawing in
     record {
-      told = sheet_told d was.answer was.standing c.in-Planned.is was.sound c.args.out.now c.write-sheet.result c.write-sheet.ensures.tells;
-      left = sheet_left d was.answer was.standing c.in-Planned.is was.sound c.args.out.now _ c.write-sheet.ensures.leaves;
+      told = sheet_told d was.answer was.standing c.in-Planned.is was.sound c.args.out.now c.write_sheet.result c.write_sheet.ensures.tells;
+      left = sheet_left d was.answer was.standing c.in-Planned.is was.sound c.args.out.now _ c.write_sheet.ensures.leaves;
     }

@@ -17,7 +17,7 @@ returns-in-Planned c =
     let long = planned_flows d was.answer was.standing c.in-Planned.is was.sound in
     let f : SFits w32 c.index-flow.result.now = search rules in
     let same : to_z w32 (of_z w32 c.index-flow.result.now) ≡ c.index-flow.result.now = to_z-of_z _ _ f in
-    planned_use d was.answer was.standing c.args.k _ c.saturating-sub.result c.index.result.now c.in-Planned.is (within (run_count d) c.args.k (omega arith) (omega arith))
+    planned_use d was.answer was.standing c.args.k _ c.saturating_sub.result c.index.result.now c.in-Planned.is (within (run_count d) c.args.k (omega arith) (omega arith))
     (same ∙ read_nth (vec_items was.answer.flows) c.args.k _ (pos 0) (omega arith) (omega (arith, long)) c.index-flow.ensures)
     (read_nth (vec_items was.drawing.drawing.runs) c.args.k _ no_run (omega arith) (omega arith) c.index.ensures)
-    (c.saturating-sub.ensures ∙ ap (λ n. c.index.result.now.upper - n) c.unsigned-abs.ensures.value)
+    (c.saturating_sub.ensures ∙ ap (λ n. c.index.result.now.upper - n) c.unsigned_abs.ensures.value)

@@ -3,8 +3,8 @@ use Rattle.rig_drawing.specs.Changes.{is_range}
 use Rattle.rig_drawing.proofs.Bounding.{run_set_held, same_place}
 use Rattle.rig_drawing.proofs.bounded.RigDrawing.rerate.Goals as goal
 
-pub invariant-of-self : goal.invariant-of-self
-invariant-of-self c =
+pub invariant_of-self : goal.invariant_of-self
+invariant_of-self c =
     let same = same_place (vec_items c.args.self.now.drawing.runs) (c.args.k - 1) _ _ (omega arith) c.in-Some.ensures.value c.index.ensures in
-    let fits = ap (λ r. is_range r.kind c.args.lower c.args.upper) same ∙ sym c.in_range.ensures ∙ c.if-not-in-range.false in
-    (run_set_held _ _ c.args.self.now.bounds _ _ _ _ (omega arith) c.in-Some.ensures.value fits, (c.args.self.now.point_room, (c.args.self.now.run_room, tt)))
+    let fits = ap (λ r. is_range r.kind c.args.lower c.args.upper) same ∙ sym c.in_range.ensures ∙ c.if-not-in_range.false in
+    record { bounds = run_set_held _ _ c.args.self.now.bounds _ _ _ _ (omega arith) c.in-Some.ensures.value fits; point_room = c.args.self.now.point_room; run_room = c.args.self.now.run_room }

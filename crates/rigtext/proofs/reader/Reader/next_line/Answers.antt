@@ -12,9 +12,9 @@ returns-then-self c =
     let s = state r in
     let none = none_left s.text s.line r.place r.begins (omega arith) in
     record {
-      shown = c.at-end.ensures ∙ sym (shown_of_lem s (omega arith) [] none);
+      shown = c.at_end.ensures ∙ sym (shown_of_lem s (omega arith) [] none);
       held = sym (left_of_lem s (omega arith) [] none);
-      place = r.begins ∙ end_place s (finished s.progress) c.at-end.result c.at-end.ensures;
+      place = r.begins ∙ end_place s (finished s.progress) c.at_end.result c.at_end.ensures;
     }
 
 pub returns-in-Ok : goal.returns-in-Ok
@@ -25,7 +25,7 @@ returns-in-Ok c =
     record {
       shown = ap (faulted s.line) c.in-Ok.ensures.shown ∙ line_shown_lem s (omega arith) _ _ more r.place r.begins;
       held = c.in-Ok.ensures.held ∙ line_left s (omega arith) _ _ more r.place r.begins;
-      place = c.take-line.new.self.begins;
+      place = c.take_line.new.self.begins;
     }
 
 pub returns-in-Err : goal.returns-in-Err
@@ -35,9 +35,9 @@ returns-in-Err c =
     let l = line_from s.text r.place in
     let e = c.in-Err.refusal in
     let more = lines_left_lem s.text s.line r.place r.begins (omega arith) in
-    let same : state c.take-line.new.self ≡ s = c.in-Err.ensures.held ∙ unmoved s (line_taken s.progress l) (shape_of r.place l) e c.in-Err.ensures.shown in
+    let same : state c.take_line.new.self ≡ s = c.in-Err.ensures.held ∙ unmoved s (line_taken s.progress l) (shape_of r.place l) e c.in-Err.ensures.shown in
     record {
       shown = ap (λ (x : State). Err (fault e x.line)) same ∙ ap (faulted s.line) c.in-Err.ensures.shown ∙ line_shown_lem s (omega arith) _ _ more r.place r.begins;
       held = c.in-Err.ensures.held ∙ line_left s (omega arith) _ _ more r.place r.begins;
-      place = c.take-line.new.self.begins;
+      place = c.take_line.new.self.begins;
     }

@@ -7,19 +7,19 @@ use Rattle.rigtext.specs.States.{line_from}
 use Rattle.rigtext.proofs.Stepping.{shape_there, says_nothing, says, done, refused, line_refused, line_unknown, line_accepted}
 use Rattle.rigtext.proofs.reader.lines.taken.Goals as goal
 
-pub returns-in-default : goal.returns-in-default
-returns-in-default c =
+pub returns-in_default : goal.returns-in_default
+returns-in_default c =
     let t = c.args.text.now in
     let start = c.args.start in
-    let out = line_unknown (progress c.args.draft.now) start (line_from t start) (says_nothing t start c.args.end c.requires.0 c.requires.1 c.in-default.ensures) in
+    let out = line_unknown (progress c.args.draft.now) start (line_from t start) (says_nothing t start c.args.end c.requires.0 c.requires.1 c.in_default.ensures) in
     record { shown = out.shown; held = out.held }
 
-pub returns-in-default-item : goal.returns-in-default-item
-returns-in-default-item c =
+pub returns-in_default-item : goal.returns-in_default-item
+returns-in_default-item c =
     let t = c.args.text.now in
     let start = c.args.start in
     let x = shape c.in-Some.line in
-    let out = line_unknown (progress c.args.draft.now) start (line_from t start) (says t start c.args.end c.requires.0 c.requires.1 x _ c.in-Some.ensures c.in-default-item.ensures.said) in
+    let out = line_unknown (progress c.args.draft.now) start (line_from t start) (says t start c.args.end c.requires.0 c.requires.1 x _ c.in-Some.ensures c.in_default-item.ensures.said) in
     record { shown = out.shown; held = out.held }
 
 pub returns-in-Ok : goal.returns-in-Ok

@@ -9,14 +9,14 @@ use Rattle.rigtext.specs.Reads.{rest_read}
 use Rattle.rigtext.proofs.Finishing.{clash}
 use Rattle.rigtext.proofs.reader.whole.answered.Goals as goal
 
-pub returns-in-default : goal.returns-in-default
-returns-in-default c = record { reads = tt; tells = tt; place = refl; lines = lines_exactly; exactly = reads_exactly; bounds = read_bounded }
+pub returns-in_default : goal.returns-in_default
+returns-in_default c = record { reads = tt; tells = tt; place = refl; lines = lines_exactly; exactly = reads_exactly; bounds = read_bounded }
 
 pub returns-in-Ok-told : goal.returns-in-Ok-told
 returns-in-Ok-told c =
     let t = c.args.text.now in
     let new = c.in-Ok.ensures.0 in
-    let reads : read_text t ≡ Ok (network c.into-rig.result.drawing) = sym (ap rest_read new) ∙ c.in-Ok-told.ensures.means ∙ ap Ok (sym c.into-rig.ensures) in
+    let reads : read_text t ≡ Ok (network c.into_rig.result.drawing) = sym (ap rest_read new) ∙ c.in-Ok-told.ensures.means ∙ ap Ok (sym c.into_rig.ensures) in
     record {
       reads = reads;
       tells = (reads_exactly t _).0 reads;

@@ -14,8 +14,8 @@ loop-i-preserved c =
     let i = c.loop-i.i in
     let old = vec_items c.args.out.now in
     let now = vec_items c.loop-i.out in
-    let value = c.as-slice-points.ensures.value in
-    let n = length c.as-slice-points.result.now in
+    let value = c.as_slice-points.ensures.value in
+    let n = length c.as_slice-points.result.now in
     let same = ap (λ l. (get_or l i no_point).mark) value in
     let t = is_terminal d in
     let make = terminal_lead d in
@@ -28,7 +28,7 @@ loop-i-preserved c =
       | in-Rack w ↦
           let k = sym same ∙ w.in-Rack.is in (
             pushed now _ old (added i t make) _ (make (suc i))
-                (ap vec_items w.out-is ∙ w.push-reserved.ensures.items ∙ ap (λ y. now ++ y ∷ []) (w.lead.ensures ∙ rack_lead d i n _ (ap length value) k w.uppers-leaving-upper.ensures))
+                (ap vec_items w.out-is ∙ w.push_reserved.ensures.items ∙ ap (λ y. now ++ y ∷ []) (w.lead.ensures ∙ rack_lead d i n _ (ap length value) k w.uppers_leaving-upper.ensures))
                 c.loop-i.invariant.0 (added_yes t make i (ap (λ m. is_rack m || is_bar m) k)),
             omega (arith, ap vec_len w.out-is),
             omega (arith, ap vec_capacity w.out-is),
@@ -36,7 +36,7 @@ loop-i-preserved c =
       | in-Bar w ↦
           let k = sym same ∙ w.in-Bar.is in (
             pushed now _ old (added i t make) _ (make (suc i))
-                (ap vec_items w.out-is ∙ w.push-reserved-in-Bar.ensures.items ∙ ap (λ y. now ++ y ∷ []) (w.lead-in-Bar.ensures ∙ bar_lead d i n _ (ap length value) k w.uppers-entering-upper.ensures))
+                (ap vec_items w.out-is ∙ w.push_reserved-in-Bar.ensures.items ∙ ap (λ y. now ++ y ∷ []) (w.lead-in-Bar.ensures ∙ bar_lead d i n _ (ap length value) k w.uppers_entering-upper.ensures))
                 c.loop-i.invariant.0 (added_yes t make i (ap (λ m. is_rack m || is_bar m) k)),
             omega (arith, ap vec_len w.out-is),
             omega (arith, ap vec_capacity w.out-is),

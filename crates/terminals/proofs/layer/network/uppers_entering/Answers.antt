@@ -8,19 +8,19 @@ use Rattle.reductions.proofs.Terminals.{entering_once, entering_small, uppers_bo
 use Rattle.terminals.proofs.layer.network.uppers_entering.Goals as goal
 use Rattle.terminals.proofs.layer.network.uppers_entering.Goals.{then-enters, else-enters}
 
-pub overflow-add-sum : goal.overflow-add-sum
-overflow-add-sum c =
+pub overflow_add-sum : goal.overflow_add-sum
+overflow_add-sum c =
     let d = network c.args.drawing.now in
     let i = c.loop-r.r-index in
     let v = c.args.v in
     let law = c.requires.lawful in
-    let value = c.as-slice-runs.ensures.value in
+    let value = c.as_slice-runs.ensures.value in
     let lt : i < run_count d = omega (arith, ap length value) in
     let same = ap (λ l. get_or l i no_run) value in
-    let once = ap (λ t. only t (get_or c.as-slice-runs.result.now i no_run).upper) c.if-enters.ensures
+    let once = ap (λ t. only t (get_or c.as_slice-runs.result.now i no_run).upper) c.if-enters.ensures
     ∙ entering_once _ v (subst (LawfulRun (point_count d)) (sym same) (law.each_run (suc i) (omega arith))) ∙ ap (λ r. upper_entering r v) same in
     let bound = uppers_bounded d law (λ r. upper_entering r v) (entering_small v) (suc i) (omega arith) in
-    let most : c.loop-r.sum + (get_or c.as-slice-runs.result.now i no_run).upper ≤ 600000000 = omega (arith, once, bound, c.requires.few) in
+    let most : c.loop-r.sum + (get_or c.as_slice-runs.result.now i no_run).upper ≤ 600000000 = omega (arith, once, bound, c.requires.few) in
     search rules
 
 pub loop-r-preserved : goal.loop-r-preserved
@@ -28,12 +28,12 @@ loop-r-preserved c =
     let d = network c.args.drawing.now in
     let i = c.loop-r.r-index in
     let v = c.args.v in
-    let value = c.as-slice-runs.ensures.value in
+    let value = c.as_slice-runs.ensures.value in
     let lt : i < run_count d = omega (arith, ap length value) in
     let same = ap (λ l. get_or l i no_run) value in
     let f : ℕ → ℕ = λ k. upper_entering (run d k) v in
     let once = entering_once _ v (subst (LawfulRun (point_count d)) (sym same) (c.requires.lawful.each_run (suc i) (omega arith))) ∙ ap (λ r. upper_entering r v) same in
     elim c.if-enters.branch [
-      | then-enters w ↦ omega (arith, w.sum-is, sum_next f i, ap (λ t. only t (get_or c.as-slice-runs.result.now i no_run).upper) w.if-enters.ensures ∙ once)
-      | else-enters w ↦ omega (arith, w.sum-is, sum_next f i, ap (λ t. only t (get_or c.as-slice-runs.result.now i no_run).upper) w.if-enters.ensures ∙ once)
+      | then-enters w ↦ omega (arith, w.sum-is, sum_next f i, ap (λ t. only t (get_or c.as_slice-runs.result.now i no_run).upper) w.if-enters.ensures ∙ once)
+      | else-enters w ↦ omega (arith, w.sum-is, sum_next f i, ap (λ t. only t (get_or c.as_slice-runs.result.now i no_run).upper) w.if-enters.ensures ∙ once)
     ]

@@ -6,22 +6,22 @@ use Rattle.reductions.specs.Terminals.{one_rack_one_bar, is_terminal, terminal_l
 use Rattle.scratch.proofs.Filing.{copied}
 use Rattle.terminals.proofs.layer.network.write_below.Goals as goal
 
-pub push-leads-requires : goal.push-leads-requires
-push-leads-requires c =
-    let runs = copied _ _ (vec_items c.args.drawing.now.runs) (vec_capacity c.args.out.now.drawing.runs) c.copy-into.ensures.items c.deref-2.ensures.value
+pub push_leads-requires : goal.push_leads-requires
+push_leads-requires c =
+    let runs = copied _ _ (vec_items c.args.drawing.now.runs) (vec_capacity c.args.out.now.drawing.runs) c.copy_into.ensures.items c.deref-2.ensures.value
     (omega (arith, c.args.drawing.now.runs.ok.0, c.args.out.now.room)) in
     record {
       lawful = c.requires.lawful;
       few = c.requires.few;
-      room = omega (arith, ap length runs, c.copy-into.new.out.ok.0, c.args.drawing.now.runs.ok.0, c.copy-into.ensures.capacity, c.args.out.now.room);
+      room = omega (arith, ap length runs, c.copy_into.new.out.ok.0, c.args.drawing.now.runs.ok.0, c.copy_into.ensures.capacity, c.args.out.now.room);
       small = omega arith;
     }
 
 pub returns : goal.returns
 returns c =
     let d = network c.args.drawing.now in
-    let runs = copied _ _ d.runs (vec_capacity c.args.out.now.drawing.runs) c.copy-into.ensures.items c.deref-2.ensures.value
+    let runs = copied _ _ d.runs (vec_capacity c.args.out.now.drawing.runs) c.copy_into.ensures.items c.deref-2.ensures.value
     (omega (arith, c.args.drawing.now.runs.ok.0, c.args.out.now.room)) in
     ap₂ (λ p r. let n : Network = record { points = p; runs = r } in n)
-    (c.push-points.ensures.items ∙ ap one_rack_one_bar c.deref.ensures.value)
-    (c.push-leads.ensures.items ∙ ap (λ l. l ++ added (point_count d) (is_terminal d) (terminal_lead d)) runs)
+    (c.push_points.ensures.items ∙ ap one_rack_one_bar c.deref.ensures.value)
+    (c.push_leads.ensures.items ∙ ap (λ l. l ++ added (point_count d) (is_terminal d) (terminal_lead d)) runs)

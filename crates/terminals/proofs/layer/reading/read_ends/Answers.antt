@@ -10,16 +10,16 @@ use Rattle.reductions.proofs.Terminals.{read_terminal}
 use Rattle.terminals.proofs.layer.reading.read_ends.Goals as goal
 use Rattle.terminals.proofs.layer.reading.read_ends.Goals.{in-Plain, in-Rack, in-Bar}
 
-pub offset-bounds-flows-lead : goal.offset-bounds-flows-lead
-offset-bounds-flows-lead c =
+pub offset_bounds-flows-lead : goal.offset_bounds-flows-lead
+offset_bounds-flows-lead c =
     let d = network c.args.drawing.now in
     let p = plan_in c.args.found.now in
     let i = c.loop-i.i in
-    let points = c.as-slice-points.ensures.value in
+    let points = c.as_slice-points.ensures.value in
     let lt : i < point_count d = omega (arith, ap length points) in
     let k = sym (ap (λ l. (get_or l i no_point).mark) points) ∙ c.in-Rack.is in
     let q = read_terminal d p c.requires.feasible i lt c.loop-i.lead c.loop-i.invariant.6 (ap (λ m. is_rack m || is_bar m) k) in
-    let at : c.loop-i.lead < length c.as-slice-flows.result.now = omega (arith, q.0, ap length c.as-slice-flows.ensures.value) in
+    let at : c.loop-i.lead < length c.as_slice-flows.result.now = omega (arith, q.0, ap length c.as_slice-flows.ensures.value) in
     search rules
 
 pub bounds-flows-lead : goal.bounds-flows-lead
@@ -27,35 +27,35 @@ bounds-flows-lead c =
     let d = network c.args.drawing.now in
     let p = plan_in c.args.found.now in
     let i = c.loop-i.i in
-    let points = c.as-slice-points.ensures.value in
+    let points = c.as_slice-points.ensures.value in
     let lt : i < point_count d = omega (arith, ap length points) in
     let k = sym (ap (λ l. (get_or l i no_point).mark) points) ∙ c.in-Rack.is in
     let q = read_terminal d p c.requires.feasible i lt c.loop-i.lead c.loop-i.invariant.6 (ap (λ m. is_rack m || is_bar m) k) in
-    let at : c.loop-i.lead < length c.as-slice-flows.result.now = omega (arith, q.0, ap length c.as-slice-flows.ensures.value) in
+    let at : c.loop-i.lead < length c.as_slice-flows.result.now = omega (arith, q.0, ap length c.as_slice-flows.ensures.value) in
     at
 
-pub overflow-add-lead : goal.overflow-add-lead
-overflow-add-lead c =
+pub overflow_add-lead : goal.overflow_add-lead
+overflow_add-lead c =
     let d = network c.args.drawing.now in
     let p = plan_in c.args.found.now in
     let i = c.loop-i.i in
-    let points = c.as-slice-points.ensures.value in
+    let points = c.as_slice-points.ensures.value in
     let lt : i < point_count d = omega (arith, ap length points) in
     let k = sym (ap (λ l. (get_or l i no_point).mark) points) ∙ c.in-Rack.is in
     let q = read_terminal d p c.requires.feasible i lt c.loop-i.lead c.loop-i.invariant.6 (ap (λ m. is_rack m || is_bar m) k) in
-    let at : c.loop-i.lead < length c.as-slice-flows.result.now = omega (arith, q.0, ap length c.as-slice-flows.ensures.value) in
+    let at : c.loop-i.lead < length c.as_slice-flows.result.now = omega (arith, q.0, ap length c.as_slice-flows.ensures.value) in
     search rules
 
-pub offset-bounds-flows-lead-in-Bar : goal.offset-bounds-flows-lead-in-Bar
-offset-bounds-flows-lead-in-Bar c =
+pub offset_bounds-flows-lead-in-Bar : goal.offset_bounds-flows-lead-in-Bar
+offset_bounds-flows-lead-in-Bar c =
     let d = network c.args.drawing.now in
     let p = plan_in c.args.found.now in
     let i = c.loop-i.i in
-    let points = c.as-slice-points.ensures.value in
+    let points = c.as_slice-points.ensures.value in
     let lt : i < point_count d = omega (arith, ap length points) in
     let k = sym (ap (λ l. (get_or l i no_point).mark) points) ∙ c.in-Bar.is in
     let q = read_terminal d p c.requires.feasible i lt c.loop-i.lead c.loop-i.invariant.6 (ap (λ m. is_rack m || is_bar m) k) in
-    let at : c.loop-i.lead < length c.as-slice-flows.result.now = omega (arith, q.0, ap length c.as-slice-flows.ensures.value) in
+    let at : c.loop-i.lead < length c.as_slice-flows.result.now = omega (arith, q.0, ap length c.as_slice-flows.ensures.value) in
     search rules
 
 pub bounds-flows-lead-in-Bar : goal.bounds-flows-lead-in-Bar
@@ -63,23 +63,23 @@ bounds-flows-lead-in-Bar c =
     let d = network c.args.drawing.now in
     let p = plan_in c.args.found.now in
     let i = c.loop-i.i in
-    let points = c.as-slice-points.ensures.value in
+    let points = c.as_slice-points.ensures.value in
     let lt : i < point_count d = omega (arith, ap length points) in
     let k = sym (ap (λ l. (get_or l i no_point).mark) points) ∙ c.in-Bar.is in
     let q = read_terminal d p c.requires.feasible i lt c.loop-i.lead c.loop-i.invariant.6 (ap (λ m. is_rack m || is_bar m) k) in
-    let at : c.loop-i.lead < length c.as-slice-flows.result.now = omega (arith, q.0, ap length c.as-slice-flows.ensures.value) in
+    let at : c.loop-i.lead < length c.as_slice-flows.result.now = omega (arith, q.0, ap length c.as_slice-flows.ensures.value) in
     at
 
-pub overflow-add-lead-in-Bar : goal.overflow-add-lead-in-Bar
-overflow-add-lead-in-Bar c =
+pub overflow_add-lead-in-Bar : goal.overflow_add-lead-in-Bar
+overflow_add-lead-in-Bar c =
     let d = network c.args.drawing.now in
     let p = plan_in c.args.found.now in
     let i = c.loop-i.i in
-    let points = c.as-slice-points.ensures.value in
+    let points = c.as_slice-points.ensures.value in
     let lt : i < point_count d = omega (arith, ap length points) in
     let k = sym (ap (λ l. (get_or l i no_point).mark) points) ∙ c.in-Bar.is in
     let q = read_terminal d p c.requires.feasible i lt c.loop-i.lead c.loop-i.invariant.6 (ap (λ m. is_rack m || is_bar m) k) in
-    let at : c.loop-i.lead < length c.as-slice-flows.result.now = omega (arith, q.0, ap length c.as-slice-flows.ensures.value) in
+    let at : c.loop-i.lead < length c.as_slice-flows.result.now = omega (arith, q.0, ap length c.as_slice-flows.ensures.value) in
     search rules
 
 pub loop-i-preserved : goal.loop-i-preserved
@@ -87,8 +87,8 @@ loop-i-preserved c =
     let d = network c.args.drawing.now in
     let p = plan_in c.args.found.now in
     let i = c.loop-i.i in
-    let points = c.as-slice-points.ensures.value in
-    let flows = c.as-slice-flows.ensures.value in
+    let points = c.as_slice-points.ensures.value in
+    let flows = c.as_slice-flows.ensures.value in
     let lt : i < point_count d = omega (arith, ap length points) in
     let mark = ap (λ l. (get_or l i no_point).mark) points in
     let s : ℕ → ℕ = λ v. only (is_rack (point d v).mark) (forth (flow p (lead_of d v))) in
@@ -98,8 +98,8 @@ loop-i-preserved c =
     elim c.match-points-i.branch [
       | in-Plain w ↦
           let k = sym mark ∙ w.in-Plain.is in (
-            made_push now _ s i 0 (ap vec_items w.supplies-is ∙ w.push-reserved.ensures.items) c.loop-i.invariant.0 (sym (ap (λ m. only (is_rack m) (forth (flow p (lead_of d (suc i))))) k)),
-            made_push then _ t i 0 (ap vec_items w.deliveries-is ∙ w.push-reserved-in-Plain.ensures.items) c.loop-i.invariant.1 (sym (ap (λ m. only (is_bar m) (forth (flow p (lead_of d (suc i))))) k)),
+            made_push now _ s i 0 (ap vec_items w.supplies-is ∙ w.push_reserved.ensures.items) c.loop-i.invariant.0 (sym (ap (λ m. only (is_rack m) (forth (flow p (lead_of d (suc i))))) k)),
+            made_push then _ t i 0 (ap vec_items w.deliveries-is ∙ w.push_reserved-in-Plain.ensures.items) c.loop-i.invariant.1 (sym (ap (λ m. only (is_bar m) (forth (flow p (lead_of d (suc i))))) k)),
             omega (arith, ap vec_len w.supplies-is),
             omega (arith, ap vec_len w.deliveries-is),
             omega (arith, ap vec_capacity w.supplies-is),
@@ -109,10 +109,10 @@ loop-i-preserved c =
       | in-Rack w ↦
           let k = sym mark ∙ w.in-Rack.is in
           let q = read_terminal d p c.requires.feasible i lt c.loop-i.lead c.loop-i.invariant.6 (ap (λ m. is_rack m || is_bar m) k) in
-          let f : SFits w32 (get_or c.as-slice-flows.result.now c.loop-i.lead (pos 0)) = search rules in
-          let size : w.unsigned-abs.result ≡ forth (flow p (lead_of d (suc i))) = simp to_z-of_z at w.unsigned-abs.ensures.value ∙ ap (λ l. nat_abs (get_or l c.loop-i.lead (pos 0))) flows ∙ q.1 in (
-            made_push now _ s i _ (ap vec_items w.supplies-is ∙ w.push-reserved-in-Rack.ensures.items) c.loop-i.invariant.0 (size ∙ sym (ap (λ m. only (is_rack m) (forth (flow p (lead_of d (suc i))))) k)),
-            made_push then _ t i 0 (ap vec_items w.deliveries-is ∙ w.push-reserved-in-Rack-2.ensures.items) c.loop-i.invariant.1 (sym (ap (λ m. only (is_bar m) (forth (flow p (lead_of d (suc i))))) k)),
+          let f : SFits w32 (get_or c.as_slice-flows.result.now c.loop-i.lead (pos 0)) = search rules in
+          let size : w.unsigned_abs.result ≡ forth (flow p (lead_of d (suc i))) = simp to_z-of_z at w.unsigned_abs.ensures.value ∙ ap (λ l. nat_abs (get_or l c.loop-i.lead (pos 0))) flows ∙ q.1 in (
+            made_push now _ s i _ (ap vec_items w.supplies-is ∙ w.push_reserved-in-Rack.ensures.items) c.loop-i.invariant.0 (size ∙ sym (ap (λ m. only (is_rack m) (forth (flow p (lead_of d (suc i))))) k)),
+            made_push then _ t i 0 (ap vec_items w.deliveries-is ∙ w.push_reserved-in-Rack-2.ensures.items) c.loop-i.invariant.1 (sym (ap (λ m. only (is_bar m) (forth (flow p (lead_of d (suc i))))) k)),
             omega (arith, ap vec_len w.supplies-is),
             omega (arith, ap vec_len w.deliveries-is),
             omega (arith, ap vec_capacity w.supplies-is),
@@ -122,10 +122,10 @@ loop-i-preserved c =
       | in-Bar w ↦
           let k = sym mark ∙ w.in-Bar.is in
           let q = read_terminal d p c.requires.feasible i lt c.loop-i.lead c.loop-i.invariant.6 (ap (λ m. is_rack m || is_bar m) k) in
-          let f : SFits w32 (get_or c.as-slice-flows.result.now c.loop-i.lead (pos 0)) = search rules in
-          let size : w.unsigned-abs-in-Bar.result ≡ forth (flow p (lead_of d (suc i))) = simp to_z-of_z at w.unsigned-abs-in-Bar.ensures.value ∙ ap (λ l. nat_abs (get_or l c.loop-i.lead (pos 0))) flows ∙ q.1 in (
-            made_push now _ s i 0 (ap vec_items w.supplies-is ∙ w.push-reserved-in-Bar.ensures.items) c.loop-i.invariant.0 (sym (ap (λ m. only (is_rack m) (forth (flow p (lead_of d (suc i))))) k)),
-            made_push then _ t i _ (ap vec_items w.deliveries-is ∙ w.push-reserved-in-Bar-2.ensures.items) c.loop-i.invariant.1 (size ∙ sym (ap (λ m. only (is_bar m) (forth (flow p (lead_of d (suc i))))) k)),
+          let f : SFits w32 (get_or c.as_slice-flows.result.now c.loop-i.lead (pos 0)) = search rules in
+          let size : w.unsigned_abs-in-Bar.result ≡ forth (flow p (lead_of d (suc i))) = simp to_z-of_z at w.unsigned_abs-in-Bar.ensures.value ∙ ap (λ l. nat_abs (get_or l c.loop-i.lead (pos 0))) flows ∙ q.1 in (
+            made_push now _ s i 0 (ap vec_items w.supplies-is ∙ w.push_reserved-in-Bar.ensures.items) c.loop-i.invariant.0 (sym (ap (λ m. only (is_rack m) (forth (flow p (lead_of d (suc i))))) k)),
+            made_push then _ t i _ (ap vec_items w.deliveries-is ∙ w.push_reserved-in-Bar-2.ensures.items) c.loop-i.invariant.1 (size ∙ sym (ap (λ m. only (is_bar m) (forth (flow p (lead_of d (suc i))))) k)),
             omega (arith, ap vec_len w.supplies-is),
             omega (arith, ap vec_len w.deliveries-is),
             omega (arith, ap vec_capacity w.supplies-is),

@@ -20,10 +20,10 @@ loop-i-preserved c =
     let d = network c.args.drawing.now in
     let ls = c.args.labels.now in
     let i = c.loop-i.i in
-    let value = c.as-slice-points.ensures.value in
-    let same : c.read-label.result ≡ terminals_label d ls (suc i) =
-    c.read-label.ensures ∙ ap (λ ps. read ls i ps (length ps) (length ps + 1)) value ∙ ap (read ls i d.points (point_count d)) (add-one (point_count d)) in (
-      made_push (vec_items c.loop-i.out) _ (terminals_label d ls) i c.read-label.result c.push-reserved.ensures.items c.loop-i.invariant.0 same,
+    let value = c.as_slice-points.ensures.value in
+    let same : c.read_label.result ≡ terminals_label d ls (suc i) =
+    c.read_label.ensures ∙ ap (λ ps. read ls i ps (length ps) (length ps + 1)) value ∙ ap (read ls i d.points (point_count d)) (add-one (point_count d)) in (
+      made_push (vec_items c.loop-i.out) _ (terminals_label d ls) i c.read_label.result c.push_reserved.ensures.items c.loop-i.invariant.0 same,
       omega arith,
       omega arith,
     )

@@ -7,8 +7,8 @@ use Rattle.reductions.proofs.Terminals.{point_count_lem, flows_below}
 use Rattle.scratch.proofs.Filing.{copied, plan_filed, answer_plan, labels_long}
 use Rattle.terminals.proofs.layer.reading.write_above.Goals as goal
 
-pub read-labels-requires : goal.read-labels-requires
-read-labels-requires c =
+pub read_labels-requires : goal.read_labels-requires
+read_labels-requires c =
     let d = network c.args.drawing.now in
     let r = c.args.found.now in
     let long = labels_long (terminals_below d) r c.requires.right in
@@ -25,12 +25,12 @@ returns-in-Plan c =
     let h = subst (Right (terminals_below d)) s c.requires.right in
     let o = c.args.out.now in
     let fs = vec_items r.flows in
-    let all = copied _ _ fs (vec_capacity o.flows) c.copy-into.ensures.items c.deref-in-Plan.ensures.value (omega (arith, h.0.flow_count, c.requires.below.few_runs, o.room)) in
+    let all = copied _ _ fs (vec_capacity o.flows) c.copy_into.ensures.items c.deref-in-Plan.ensures.value (omega (arith, h.0.flow_count, c.requires.below.few_runs, o.room)) in
     let m : c.len.result ≡ length d.runs = omega (arith, c.len.ensures, c.args.drawing.now.runs.ok.0) in
     let first = c.truncate.ensures.items ∙ ap (take _) all ∙ ap (λ n. take n fs) m ∙ front_made fs (pos 0) (length d.runs) (flows_below d (plan_in r) h.0) in
     plan_filed _ _ _ _ _ _ r.total _ _
     first
-    c.read-ends.ensures.supplied
-    c.read-ends.ensures.delivered
-    (c.read-labels.ensures.items ∙ ap (terminals_labels d) c.deref.ensures.value)
+    c.read_ends.ensures.supplied
+    c.read_ends.ensures.delivered
+    (c.read_labels.ensures.items ∙ ap (terminals_labels d) c.deref.ensures.value)
     ∙ ap (λ a. filed (terminals_above d a)) (sym s)

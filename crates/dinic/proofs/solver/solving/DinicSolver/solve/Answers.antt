@@ -8,4 +8,4 @@ use Rattle.dinic.proofs.solver.solving.DinicSolver.solve.Goals as goal
 pub plan-requires : goal.plan-requires
 plan-requires c =
     let d = network c.args.drawing.now in
-    plain d (subst (λ (s : Statements). Carried s d) c.statements.ensures (c.in-ok-admit.ensures.carries.0 refl))
+    plain d (subst (λ (s : Statements). Carried s d) c.statements.ensures (c.in_ok-admit.ensures.carries.0 refl))

@@ -12,10 +12,10 @@ use Rattle.lower_bounds.specs.Verdicts.{shows_shortage}
 use Rattle.lower_bounds.proofs.Solving.{few_units, few_lowers, first_room, second_room, planned, above_short, above_raised}
 use Rattle.lower_bounds.proofs.layer.solving.LowerBoundsSolver.solve.Goals as goal
 
-pub write-first-requires : goal.write-first-requires
-write-first-requires g c =
+pub write_first-requires : goal.write_first-requires
+write_first-requires g c =
     let d = network c.args.drawing.now in
-    let k = subst (λ s. Carried s d) c.statements.ensures (c.in-ok-admit.ensures.carries.0 (refl {a = true})) in
+    let k = subst (λ s. Carried s d) c.statements.ensures (c.in_ok-admit.ensures.carries.0 (refl {a = true})) in
     let x = c.args.self.now.below in
     let b = g.B.Solver.states x in
     let m = g.met.B.Solver.modest x in
@@ -28,58 +28,58 @@ write-first-requires g c =
       runs = omega (arith, room, c.args.drawing.now.points.ok.0, c.args.drawing.now.runs.ok.0);
     }
 
-pub returns-in-err-solve : goal.returns-in-err-solve
-returns-in-err-solve g c =
+pub returns-in_err-solve : goal.returns-in_err-solve
+returns-in_err-solve g c =
     let d = network c.args.drawing.now in
-    let k = subst (λ s. Carried s d) c.statements.ensures (c.in-ok-admit.ensures.carries.0 (refl {a = true})) in
+    let k = subst (λ s. Carried s d) c.statements.ensures (c.in_ok-admit.ensures.carries.0 (refl {a = true})) in
     let m = g.met.B.Solver.modest c.args.self.now.below in
-    absurd (not_refused _ _ (lowers_first d) _ c.in-err-solve.ensures.refuses c.write-first.ensures (lowers_first_carried _ d m k))
+    absurd (not_refused _ _ (lowers_first d) _ c.in_err-solve.ensures.refuses c.write_first.ensures (lowers_first_carried _ d m k))
 
-pub shows-shortage-requires : goal.shows-shortage-requires
-shows-shortage-requires g c =
+pub shows_shortage-requires : goal.shows_shortage-requires
+shows_shortage-requires g c =
     let d = network c.args.drawing.now in
-    let k = subst (λ s. Carried s d) c.statements.ensures (c.in-ok-admit.ensures.carries.0 (refl {a = true})) in
+    let k = subst (λ s. Carried s d) c.statements.ensures (c.in_ok-admit.ensures.carries.0 (refl {a = true})) in
     few_lowers _ d (g.met.B.Solver.modest c.args.self.now.below) k
 
-pub write-short-requires : goal.write-short-requires
-write-short-requires g c =
+pub write_short-requires : goal.write_short-requires
+write_short-requires g c =
     let d = network c.args.drawing.now in
-    let k = subst (λ s. Carried s d) c.statements.ensures (c.in-ok-admit.ensures.carries.0 (refl {a = true})) in
+    let k = subst (λ s. Carried s d) c.statements.ensures (c.in_ok-admit.ensures.carries.0 (refl {a = true})) in
     let x = c.args.self.now.below in
     let b = g.B.Solver.states x in
     let met = g.met.B.Solver in
     let below = lowers_first_carried b d (met.modest x) k in
-    let e = answer_filed c.solve.new.out _ c.in-ok-solve.ensures.writes ∙ ap (g.B.Solver.answer x) c.write-first.ensures in
+    let e = answer_filed c.solve.new.out _ c.in_ok-solve.ensures.writes ∙ ap (g.B.Solver.answer x) c.write_first.ensures in
     record {
       ends = (plain_drawing b d k).one_each;
       below = below.admissible;
       right = subst (Right (lowers_first d)) (sym e) (met.right x (lowers_first d) below);
     }
 
-pub returns-then-shows-shortage : goal.returns-then-shows-shortage
-returns-then-shows-shortage g c =
+pub returns-then-shows_shortage : goal.returns-then-shows_shortage
+returns-then-shows_shortage g c =
     let d = network c.args.drawing.now in
     let x = c.args.self.now.below in
-    let solved = c.in-ok-solve.ensures in
-    let e = answer_filed c.solve.new.out _ solved.writes ∙ ap (g.B.Solver.answer x) c.write-first.ensures in
+    let solved = c.in_ok-solve.ensures in
+    let e = answer_filed c.solve.new.out _ solved.writes ∙ ap (g.B.Solver.answer x) c.write_first.ensures in
     record {
-      refuses = c.in-ok-admit.ensures.refuses ∙ ap (λ s. refusal s d) c.statements.ensures;
-      writes = c.write-short.ensures ∙ ap filed (above_short d (answer_in c.solve.new.out) (g.B.Solver.answer x) (sym c.if-shows-shortage.ensures))
+      refuses = c.in_ok-admit.ensures.refuses ∙ ap (λ s. refusal s d) c.statements.ensures;
+      writes = c.write_short.ensures ∙ ap filed (above_short d (answer_in c.solve.new.out) (g.B.Solver.answer x) (sym c.if-shows_shortage.ensures))
           ∙ ap (λ a. filed (lowers_above d a (g.B.Solver.answer x))) e;
-      keeps-statements = ap lowers_states solved.keeps-statements;
-      keeps-answers = ap (λ f n. lowers_above n (f (lowers_first n)) f) solved.keeps-answers;
+      keeps_statements = ap lowers_states solved.keeps_statements;
+      keeps_answers = ap (λ f n. lowers_above n (f (lowers_first n)) f) solved.keeps_answers;
     }
 
-pub write-second-requires : goal.write-second-requires
-write-second-requires g c =
+pub write_second-requires : goal.write_second-requires
+write_second-requires g c =
     let d = network c.args.drawing.now in
-    let k = subst (λ s. Carried s d) c.statements.ensures (c.in-ok-admit.ensures.carries.0 (refl {a = true})) in
+    let k = subst (λ s. Carried s d) c.statements.ensures (c.in_ok-admit.ensures.carries.0 (refl {a = true})) in
     let x = c.args.self.now.below in
     let b = g.B.Solver.states x in
     let met = g.met.B.Solver in
     let r = c.solve.new.out in
-    let e = answer_filed r _ c.in-ok-solve.ensures.writes ∙ ap (g.B.Solver.answer x) c.write-first.ensures in
-    let s = planned d r (sym c.if-shows-shortage.ensures) in
+    let e = answer_filed r _ c.in_ok-solve.ensures.writes ∙ ap (g.B.Solver.answer x) c.write_first.ensures in
+    let s = planned d r (sym c.if-shows_shortage.ensures) in
     let right = subst (Right (lowers_first d)) (sym e ∙ s) (met.right x (lowers_first d) (lowers_first_carried b d (met.modest x) k)) in
     record {
       long = omega (arith, right.0.flow_count, run_count_lem d, r.flows.ok.0, c.args.drawing.now.runs.ok.0);
@@ -87,25 +87,25 @@ write-second-requires g c =
       runs = omega (arith, second_room b d (met.modest x) k (plan_in r) right.0, c.args.drawing.now.runs.ok.0);
     }
 
-pub returns-in-err-solve-2 : goal.returns-in-err-solve-2
-returns-in-err-solve-2 g c =
+pub returns-in_err-solve-2 : goal.returns-in_err-solve-2
+returns-in_err-solve-2 g c =
     let d = network c.args.drawing.now in
-    let k = subst (λ s. Carried s d) c.statements.ensures (c.in-ok-admit.ensures.carries.0 (refl {a = true})) in
+    let k = subst (λ s. Carried s d) c.statements.ensures (c.in_ok-admit.ensures.carries.0 (refl {a = true})) in
     let x = c.args.self.now.below in
     let b = g.B.Solver.states x in
     let met = g.met.B.Solver in
     let r = c.solve.new.out in
-    let solved = c.in-ok-solve.ensures in
-    let e = answer_filed r _ solved.writes ∙ ap (g.B.Solver.answer x) c.write-first.ensures in
-    let s = planned d r (sym c.if-shows-shortage.ensures) in
+    let solved = c.in_ok-solve.ensures in
+    let e = answer_filed r _ solved.writes ∙ ap (g.B.Solver.answer x) c.write_first.ensures in
+    let s = planned d r (sym c.if-shows_shortage.ensures) in
     let right = subst (Right (lowers_first d)) (sym e ∙ s) (met.right x (lowers_first d) (lowers_first_carried b d (met.modest x) k)) in
-    let again = subst (λ t. Carried t (lowers_second d (plan_in r))) (sym solved.keeps-statements) (lowers_second_carried b d (met.modest x) k (plan_in r) right.0) in
-    absurd (not_refused _ _ (lowers_second d (plan_in r)) _ c.in-err-solve-2.ensures.refuses c.write-second.ensures again)
+    let again = subst (λ t. Carried t (lowers_second d (plan_in r))) (sym solved.keeps_statements) (lowers_second_carried b d (met.modest x) k (plan_in r) right.0) in
+    absurd (not_refused _ _ (lowers_second d (plan_in r)) _ c.in_err-solve-2.ensures.refuses c.write_second.ensures again)
 
-pub write-raised-requires : goal.write-raised-requires
-write-raised-requires g c =
+pub write_raised-requires : goal.write_raised-requires
+write_raised-requires g c =
     let d = network c.args.drawing.now in
-    let k = subst (λ s. Carried s d) c.statements.ensures (c.in-ok-admit.ensures.carries.0 (refl {a = true})) in
+    let k = subst (λ s. Carried s d) c.statements.ensures (c.in_ok-admit.ensures.carries.0 (refl {a = true})) in
     let x = c.args.self.now.below in
     let b = g.B.Solver.states x in
     let answer = g.B.Solver.answer x in
@@ -113,14 +113,14 @@ write-raised-requires g c =
     let plain = plain_drawing b d k in
     let r = c.solve.new.out in
     let p = plan_in r in
-    let solved = c.in-ok-solve.ensures in
-    let e = answer_filed r _ solved.writes ∙ ap answer c.write-first.ensures in
-    let flag = sym c.if-shows-shortage.ensures in
+    let solved = c.in_ok-solve.ensures in
+    let e = answer_filed r _ solved.writes ∙ ap answer c.write_first.ensures in
+    let flag = sym c.if-shows_shortage.ensures in
     let s = planned d r flag in
     let right = subst (Right (lowers_first d)) (sym e ∙ s) (met.right x (lowers_first d) (lowers_first_carried b d (met.modest x) k)) in
     let next = λ (q : Plan) (ok : Feasible (lowers_first d) q). met.right x (lowers_second d q) (lowers_second_carried b d (met.modest x) k q ok) in
-    let e₂ : answer_in c.solve-2.new.out ≡ answer (lowers_second d p) = answer_filed c.solve-2.new.out _ c.in-ok-solve-2.ensures.writes
-    ∙ ap (λ f. f (network c.write-second.new.out.drawing)) solved.keeps-answers ∙ ap answer c.write-second.ensures in
+    let e₂ : answer_in c.solve-2.new.out ≡ answer (lowers_second d p) = answer_filed c.solve-2.new.out _ c.in_ok-solve-2.ensures.writes
+    ∙ ap (λ f. f (network c.write_second.new.out.drawing)) solved.keeps_answers ∙ ap answer c.write_second.ensures in
     record {
       admissible = k.admissible;
       given = (plain.no_links, few_units b d (met.modest x) k);
@@ -136,18 +136,18 @@ returns g c =
     let answer = g.B.Solver.answer c.args.self.now.below in
     let r = c.solve.new.out in
     let p = plan_in r in
-    let solved = c.in-ok-solve.ensures in
-    let again = c.in-ok-solve-2.ensures in
-    let e = answer_filed r _ solved.writes ∙ ap answer c.write-first.ensures in
-    let flag = sym c.if-shows-shortage.ensures in
+    let solved = c.in_ok-solve.ensures in
+    let again = c.in_ok-solve-2.ensures in
+    let e = answer_filed r _ solved.writes ∙ ap answer c.write_first.ensures in
+    let flag = sym c.if-shows_shortage.ensures in
     let s = planned d r flag in
     let e₂ : answer_in c.solve-2.new.out ≡ answer (lowers_second d p) = answer_filed c.solve-2.new.out _ again.writes
-    ∙ ap (λ f. f (network c.write-second.new.out.drawing)) solved.keeps-answers ∙ ap answer c.write-second.ensures in
+    ∙ ap (λ f. f (network c.write_second.new.out.drawing)) solved.keeps_answers ∙ ap answer c.write_second.ensures in
     record {
-      refuses = c.in-ok-admit.ensures.refuses ∙ ap (λ s. refusal s d) c.statements.ensures;
-      writes = c.write-raised.ensures ∙ ap (λ a. filed (raised_answer d p a)) e₂
+      refuses = c.in_ok-admit.ensures.refuses ∙ ap (λ s. refusal s d) c.statements.ensures;
+      writes = c.write_raised.ensures ∙ ap (λ a. filed (raised_answer d p a)) e₂
           ∙ ap filed (above_raised d p r.total (vec_items r.labels) answer (sym (ap (shows_shortage d) s) ∙ flag))
           ∙ ap (λ a. filed (lowers_above d a answer)) (sym s ∙ e);
-      keeps-statements = ap lowers_states (again.keeps-statements ∙ solved.keeps-statements);
-      keeps-answers = ap (λ f n. lowers_above n (f (lowers_first n)) f) (again.keeps-answers ∙ solved.keeps-answers);
+      keeps_statements = ap lowers_states (again.keeps_statements ∙ solved.keeps_statements);
+      keeps_answers = ap (λ f n. lowers_above n (f (lowers_first n)) f) (again.keeps_answers ∙ solved.keeps_answers);
     }

@@ -9,10 +9,10 @@ use Rattle.reductions.proofs.Carrying.{terminals_carried, terminals_room}
 use Rattle.scratch.proofs.Filing.{answer_filed, not_refused}
 use Rattle.terminals.proofs.layer.solving.TerminalsSolver.solve.Goals as goal
 
-pub write-below-requires : goal.write-below-requires
-write-below-requires g c =
+pub write_below-requires : goal.write_below-requires
+write_below-requires g c =
     let d = network c.args.drawing.now in
-    let k = subst (λ s. Carried s d) c.statements.ensures (c.in-ok-admit.ensures.carries.0 (refl {a = true})) in
+    let k = subst (λ s. Carried s d) c.statements.ensures (c.in_ok-admit.ensures.carries.0 (refl {a = true})) in
     let x = c.args.self.now.below in
     let m = g.met.B.Solver.modest x in
     let b = g.B.Solver.states x in
@@ -25,20 +25,20 @@ write-below-requires g c =
       runs = omega (arith, terminals_room b d m k, c.args.drawing.now.points.ok.0, c.args.drawing.now.runs.ok.0);
     }
 
-pub returns-in-err-solve : goal.returns-in-err-solve
-returns-in-err-solve g c =
+pub returns-in_err-solve : goal.returns-in_err-solve
+returns-in_err-solve g c =
     let d = network c.args.drawing.now in
-    let k = subst (λ s. Carried s d) c.statements.ensures (c.in-ok-admit.ensures.carries.0 (refl {a = true})) in
+    let k = subst (λ s. Carried s d) c.statements.ensures (c.in_ok-admit.ensures.carries.0 (refl {a = true})) in
     let m = g.met.B.Solver.modest c.args.self.now.below in
-    absurd (not_refused _ _ (terminals_below d) _ c.in-err-solve.ensures.refuses c.write-below.ensures (terminals_carried _ d m k))
+    absurd (not_refused _ _ (terminals_below d) _ c.in_err-solve.ensures.refuses c.write_below.ensures (terminals_carried _ d m k))
 
-pub write-above-requires : goal.write-above-requires
-write-above-requires g c =
+pub write_above-requires : goal.write_above-requires
+write_above-requires g c =
     let d = network c.args.drawing.now in
     let x = c.args.self.now.below in
-    let k = subst (λ s. Carried s d) c.statements.ensures (c.in-ok-admit.ensures.carries.0 (refl {a = true})) in
+    let k = subst (λ s. Carried s d) c.statements.ensures (c.in_ok-admit.ensures.carries.0 (refl {a = true})) in
     let met = g.met.B.Solver in
-    let e = answer_filed c.solve.new.out _ c.in-ok-solve.ensures.writes ∙ ap (g.B.Solver.answer x) c.write-below.ensures in
+    let e = answer_filed c.solve.new.out _ c.in_ok-solve.ensures.writes ∙ ap (g.B.Solver.answer x) c.write_below.ensures in
     record {
       admissible = k.admissible;
       below = (terminals_carried _ d (met.modest x) k).admissible;
@@ -49,11 +49,11 @@ pub returns : goal.returns
 returns g c =
     let d = network c.args.drawing.now in
     let x = c.args.self.now.below in
-    let solved = c.in-ok-solve.ensures in
-    let e = answer_filed c.solve.new.out _ solved.writes ∙ ap (g.B.Solver.answer x) c.write-below.ensures in
+    let solved = c.in_ok-solve.ensures in
+    let e = answer_filed c.solve.new.out _ solved.writes ∙ ap (g.B.Solver.answer x) c.write_below.ensures in
     record {
-      refuses = c.in-ok-admit.ensures.refuses ∙ ap (λ s. refusal s d) c.statements.ensures;
-      writes = c.write-above.ensures ∙ ap (λ a. filed (terminals_above d a)) e;
-      keeps-statements = ap terminals_states solved.keeps-statements;
-      keeps-answers = ap (λ f n. terminals_above n (f (terminals_below n))) solved.keeps-answers;
+      refuses = c.in_ok-admit.ensures.refuses ∙ ap (λ s. refusal s d) c.statements.ensures;
+      writes = c.write_above.ensures ∙ ap (λ a. filed (terminals_above d a)) e;
+      keeps_statements = ap terminals_states solved.keeps_statements;
+      keeps_answers = ap (λ f n. terminals_above n (f (terminals_below n))) solved.keeps_answers;
     }

@@ -1,5 +1,7 @@
 // A solver chosen while the program runs.
-ghost use Rattle.either.specs.declared.Either.TheVariants.{First, Second};
+#![tactic(auto)]
+
+ghost use Rattle.either_solver.specs.declared.Either.TheVariants.{First, Second};
 
 use drawing::{Drawing, Record, Refusal, Solver, Statements};
 
