@@ -1,3 +1,4 @@
 pub mod Sums
 pub mod Deciding
 pub mod Carrying
+pub mod Lists
