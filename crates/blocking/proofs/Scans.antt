@@ -1,68 +1,69 @@
 -- The steps of a scan, as the code takes them.
-use Rattle.std.proofs.Common.{◌≡◌, ℕ, zero, suc, ◌+◌, ◌-◌, ◌<◌, ◌≤◌, min, true, false, cond, ◌&&◌, eqb, ltb, List, length, get_or, set, sym, refl, ap, ◌∙◌, subst, inl, inr, arith}
+use Rattle.std.proofs.Common.{◌≡◌, ℕ, zero, suc, ◌+◌, ◌-◌, ◌<◌, ◌≤◌, min, Bool, cond, ◌&&◌, eqb, ltb, List, [], ◌∷◌, length, get_or, set, refl, ap, ◌∙◌, subst, inl, inr, arith}
 use Rattle.std.proofs.lemmas.Bool.{cases_Bool, cond-true, cond-false, eq-eqb, ne_eqb, lt-ltb, le-ltb, and_from, and_left, and_right}
-use Rattle.residual.specs.Net.{mate_of, head_of, tail_of, before, Chained, Place, Placed, Bounded, moved}
+use Rattle.residual.specs.Net.{mate_of, head_of, tail_of, leavers, Chained, Placed, Bounded, moved}
 use Rattle.blocking.specs.Push.{Out, apt, taken, scans, pushes}
 use Rattle.blocking.specs.Flows.{Good}
-use Rattle.residual.proofs.Chains.{follow}
 use Rattle.residual.proofs.Moves.{mate_within, moved_length, moved_pairs}
 use Rattle.blocking.proofs.Flows.{pushes_good}
 
+-- arc k goes somewhere: it is open and leads to a point of level lv
+abbrev onward : (hs ls : List ℕ) (lv k : ℕ) (rs : List ℕ) → Bool
+onward hs ls lv k rs = ltb 0 (get_or rs k 0) && eqb (get_or ls (head_of hs k) 0) lv
+
 module _ (hs ls : List ℕ) (P : ℕ → ℕ → List ℕ → List ℕ → Out) (v lv : ℕ) where
-  pub scans_skip : (k left : ℕ) (rs cs : List ℕ) → scans hs ls P v lv k left rs cs ≡ scans hs ls P v lv (before hs v k) left rs cs
-  unfolding before scans apt
-  scans_skip zero left rs cs = refl
-  scans_skip (suc k) left rs cs =
+  -- a scan of the listed arcs, which leave v
+  unfoldable pub along : (ks : List ℕ) (left : ℕ) (rs cs : List ℕ) → Out
+  along [] left rs cs = (rs, set cs v 0, left)
+  along (k ∷ ks) left rs cs =
+      cond (onward hs ls lv k rs)
+      (taken v k left (min left (get_or rs k 0)) (P (head_of hs k) (min left (get_or rs k 0)) rs cs) (λ l r c. along ks l r c))
+      (along ks left rs cs)
+
+  taken_same : (k left amount : ℕ) (o : Out) (f g : ℕ → List ℕ → List ℕ → Out) → ((l : ℕ) (r c : List ℕ) → f l r c ≡ g l r c) → taken v k left amount o f ≡ taken v k left amount o g
+  unfolding taken
+  taken_same k left amount o f g h = ap (λ (x : Out). cond (eqb (left - (amount - o.2)) 0) (moved o.0 k (amount - o.2), set o.1 v (suc k), 0) x) (h (left - (amount - o.2)) (moved o.0 k (amount - o.2)) o.1)
+
+  pub scans_along : (k left : ℕ) (rs cs : List ℕ) → scans hs ls P v lv k left rs cs ≡ along (leavers hs v k) left rs cs
+  unfolding leavers scans apt along
+  scans_along zero left rs cs = refl
+  scans_along (suc k) left rs cs =
       elim (cases_Bool (eqb (tail_of hs k) v)) [
-        | inl e ↦ rw (cond-true (eqb (tail_of hs k) v) (suc k) (before hs v k) e) refl
+        | inl e ↦
+            rw (cond-true (eqb (tail_of hs k) v) (k ∷ leavers hs v k) (leavers hs v k) e, e)
+            (ap (λ (x : Out). cond (onward hs ls lv k rs) x (scans hs ls P v lv k left rs cs))
+            (taken_same k left (min left (get_or rs k 0)) (P (head_of hs k) (min left (get_or rs k 0)) rs cs) (λ l r c. scans hs ls P v lv k l r c) (λ l r c. along (leavers hs v k) l r c) (scans_along k))
+            ∙ ap (cond (onward hs ls lv k rs) (taken v k left (min left (get_or rs k 0)) (P (head_of hs k) (min left (get_or rs k 0)) rs cs) (λ l r c. along (leavers hs v k) l r c))) (scans_along k left rs cs))
         | inr e ↦
-            rw (cond-false (eqb (tail_of hs k) v) (suc k) (before hs v k) e)
-            (cond-false (eqb (tail_of hs k) v && (ltb 0 (get_or rs k 0) && eqb (get_or ls (head_of hs k) 0) lv)) _ _ (and_left _ _ e) ∙ scans_skip k left rs cs)
+            rw (cond-false (eqb (tail_of hs k) v) (k ∷ leavers hs v k) (leavers hs v k) e)
+            (cond-false (eqb (tail_of hs k) v && onward hs ls lv k rs) _ _ (and_left _ _ e) ∙ scans_along k left rs cs)
       ]
 
-  -- arc k is not apt
-  scans_none : (at left : ℕ) (rs cs : List ℕ) → 0 < at → apt hs ls v lv (at - 1) rs ≡ false → scans hs ls P v lv at left rs cs ≡ scans hs ls P v lv (at - 1) left rs cs
-  unfolding scans
-  scans_none zero left rs cs = λ h e. absurd (let z : ⊥ = omega arith in z)
-  scans_none (suc k) left rs cs = let one : suc k - 1 ≡ k = omega arith in rw one (λ h e. cond-false _ _ _ e)
+  module _ (k : ℕ) (ks : List ℕ) (left : ℕ) (rs cs : List ℕ) where
+    pub along_shut : get_or rs k 0 ≤ 0 → along (k ∷ ks) left rs cs ≡ along ks left rs cs
+    unfolding along
+    along_shut z = cond-false _ _ _ (and_left (ltb 0 (get_or rs k 0)) _ (le-ltb 0 (get_or rs k 0) z))
 
-  scans_some : (at left : ℕ) (rs cs : List ℕ) → 0 < at → apt hs ls v lv (at - 1) rs ≡ true → scans hs ls P v lv at left rs cs ≡ taken v (at - 1) left (min left (get_or rs (at - 1) 0)) (P (head_of hs (at - 1)) (min left (get_or rs (at - 1) 0)) rs cs) (λ l r c. scans hs ls P v lv (at - 1) l r c)
-  unfolding scans
-  scans_some zero left rs cs = λ h e. absurd (let z : ⊥ = omega arith in z)
-  scans_some (suc k) left rs cs = let one : suc k - 1 ≡ k = omega arith in rw one (λ h e. cond-true _ _ _ e)
+    pub along_off : (get_or ls (head_of hs k) 0 ≡ lv → ⊥) → along (k ∷ ks) left rs cs ≡ along ks left rs cs
+    unfolding along
+    along_off z = cond-false _ _ _ (and_right (ltb 0 (get_or rs k 0)) _ (ne_eqb (get_or ls (head_of hs k) 0) lv z))
 
-  module _ (ns : List ℕ) (n at left : ℕ) (rs cs : List ℕ) (c : Chained hs ns n) (p : Place hs v at) (h : 0 < at) where
-    -- what is left of the chain, by the code's next
-    on_next : (l : ℕ) (r s : List ℕ) → scans hs ls P v lv (at - 1) l r s ≡ scans hs ls P v lv (get_or ns (at - 1) 0) l r s
-    on_next l r s = scans_skip (at - 1) l r s ∙ ap (λ (x : ℕ). scans hs ls P v lv x l r s) (sym (follow v at c p h))
-
-    pub scans_shut : get_or rs (at - 1) 0 ≤ 0 → scans hs ls P v lv at left rs cs ≡ scans hs ls P v lv (get_or ns (at - 1) 0) left rs cs
-    unfolding apt
-    scans_shut z = scans_none at left rs cs h (and_right (eqb (tail_of hs (at - 1)) v) _ (and_left (ltb 0 (get_or rs (at - 1) 0)) _ (le-ltb 0 (get_or rs (at - 1) 0) z))) ∙ on_next left rs cs
-
-    pub scans_off : (get_or ls (head_of hs (at - 1)) 0 ≡ lv → ⊥) → scans hs ls P v lv at left rs cs ≡ scans hs ls P v lv (get_or ns (at - 1) 0) left rs cs
-    unfolding apt
-    scans_off z = scans_none at left rs cs h (and_right (eqb (tail_of hs (at - 1)) v) _ (and_right (ltb 0 (get_or rs (at - 1) 0)) _ (ne_eqb (get_or ls (head_of hs (at - 1)) 0) lv z))) ∙ on_next left rs cs
-
-    module _ (rs' cs' : List ℕ) (got : ℕ) (wide : 0 < get_or rs (at - 1) 0) (up : get_or ls (head_of hs (at - 1)) 0 ≡ lv)
-        (less : got ≤ min left (get_or rs (at - 1) 0)) (e : P (head_of hs (at - 1)) (min left (get_or rs (at - 1) 0)) rs cs ≡ (rs', cs', min left (get_or rs (at - 1) 0) - got)) where
-      goes : scans hs ls P v lv at left rs cs ≡ cond (eqb (left - got) 0) (moved rs' (at - 1) got, set cs' v (suc (at - 1)), 0) (scans hs ls P v lv (at - 1) (left - got) (moved rs' (at - 1) got) cs')
-      unfolding apt taken
+    module _ (rs' cs' : List ℕ) (got : ℕ) (wide : 0 < get_or rs k 0) (up : get_or ls (head_of hs k) 0 ≡ lv)
+        (less : got ≤ min left (get_or rs k 0)) (e : P (head_of hs k) (min left (get_or rs k 0)) rs cs ≡ (rs', cs', min left (get_or rs k 0) - got)) where
+      goes : along (k ∷ ks) left rs cs ≡ cond (eqb (left - got) 0) (moved rs' k got, set cs' v (suc k), 0) (along ks (left - got) (moved rs' k got) cs')
+      unfolding along taken
       goes =
-          let amount : ℕ = min left (get_or rs (at - 1) 0) in
+          let amount : ℕ = min left (get_or rs k 0) in
           let back : amount - (amount - got) ≡ got = omega arith in
-          let t : apt hs ls v lv (at - 1) rs ≡ true = and_from _ _ (eq-eqb _ _ (p.leaves h)) (and_from _ _ (lt-ltb _ _ wide) (eq-eqb _ _ up)) in
-          scans_some at left rs cs h t
-          ∙ ap (λ (o : Out). taken v (at - 1) left amount o (λ l r s. scans hs ls P v lv (at - 1) l r s)) e
-          ∙ ap (λ (g : ℕ). cond (eqb (left - g) 0) (moved rs' (at - 1) g, set cs' v (suc (at - 1)), 0) (scans hs ls P v lv (at - 1) (left - g) (moved rs' (at - 1) g) cs')) back
+          cond-true _ _ _ (and_from _ _ (lt-ltb _ _ wide) (eq-eqb _ _ up))
+          ∙ ap (λ (o : Out). taken v k left amount o (λ l r s. along ks l r s)) e
+          ∙ ap (λ (g : ℕ). cond (eqb (left - g) 0) (moved rs' k g, set cs' v (suc k), 0) (along ks (left - g) (moved rs' k g) cs')) back
 
-      pub scans_stop : left - got ≡ 0 → scans hs ls P v lv at left rs cs ≡ (moved rs' (at - 1) got, set cs' v at, 0)
-      scans_stop z =
-          let back : suc (at - 1) ≡ at = omega arith in
-          goes ∙ cond-true _ _ _ (eq-eqb _ _ z) ∙ ap (λ (x : ℕ). (moved rs' (at - 1) got, set cs' v x, 0)) back
+      pub along_stop : left - got ≡ 0 → along (k ∷ ks) left rs cs ≡ (moved rs' k got, set cs' v (suc k), 0)
+      along_stop z = goes ∙ cond-true _ _ _ (eq-eqb _ _ z)
 
-      pub scans_more : (left - got ≡ 0 → ⊥) → scans hs ls P v lv at left rs cs ≡ scans hs ls P v lv (get_or ns (at - 1) 0) (left - got) (moved rs' (at - 1) got) cs'
-      scans_more z = goes ∙ cond-false _ _ _ (ne_eqb _ _ z) ∙ on_next (left - got) (moved rs' (at - 1) got) cs'
+      pub along_more : (left - got ≡ 0 → ⊥) → along (k ∷ ks) left rs cs ≡ along ks (left - got) (moved rs' k got) cs'
+      along_more z = goes ∙ cond-false _ _ _ (ne_eqb _ _ z)
 
 -- what holds after the call in a push
 pub record After (hs ns ls : List ℕ) (a got : ℕ) (rs' cs' : List ℕ) : Type 0 where
@@ -103,12 +104,11 @@ after {hs} {ns} {ls} sink top d v a left got rs cs rs' cs' c ain tv lvv up len p
     }
 
 -- `after`, by the code's names
-pub after_call : {hs ns ls : List ℕ} {n : ℕ} (sink top depth v at left got most : ℕ) (rs cs rs' cs' : List ℕ) → Chained hs ns n → Place hs v at → 0 < at → (depth ≡ 0 → ⊥) → get_or ls v 0 + depth ≡ top → get_or ls (head_of hs (at - 1)) 0 ≡ top - (depth - 1) → length rs ≡ length hs → Placed hs cs → Bounded rs → most ≡ min left (get_or rs (at - 1) 0) → got ≤ most → pushes hs ls sink top (depth - 1) (head_of hs (at - 1)) most rs cs ≡ (rs', cs', most - got) → After hs ns ls (at - 1) got rs' cs'
-after_call {hs} {ns} {ls} sink top depth v at left got most rs cs rs' cs' c p h ne lvv up len pl bd m less e =
-    let w = p.within in
-    after sink top (depth - 1) v (at - 1) left got rs cs rs' cs' c (omega arith) (p.leaves h) (omega arith) up len pl bd
+pub after_call : {hs ns ls : List ℕ} {n : ℕ} (sink top depth v a left got most : ℕ) (rs cs rs' cs' : List ℕ) → Chained hs ns n → (a < length hs) × (tail_of hs a ≡ v) → (depth ≡ 0 → ⊥) → get_or ls v 0 + depth ≡ top → get_or ls (head_of hs a) 0 ≡ top - (depth - 1) → length rs ≡ length hs → Placed hs cs → Bounded rs → most ≡ min left (get_or rs a 0) → got ≤ most → pushes hs ls sink top (depth - 1) (head_of hs a) most rs cs ≡ (rs', cs', most - got) → After hs ns ls a got rs' cs'
+after_call {hs} {ns} {ls} sink top depth v a left got most rs cs rs' cs' c p ne lvv up len pl bd m less e =
+    after sink top (depth - 1) v a left got rs cs rs' cs' c p.0 p.1 (omega arith) up len pl bd
     (subst (λ (x : ℕ). got ≤ x) m less)
-    (subst (λ (x : ℕ). pushes hs ls sink top (depth - 1) (head_of hs (at - 1)) x rs cs ≡ (rs', cs', x - got)) m e)
+    (subst (λ (x : ℕ). pushes hs ls sink top (depth - 1) (head_of hs a) x rs cs ≡ (rs', cs', x - got)) m e)
 
 pub pushes_on : (hs ls : List ℕ) (sink top depth v lim : ℕ) (rs cs : List ℕ) → (depth ≡ 0 → ⊥) → scans hs ls (pushes hs ls sink top (depth - 1)) v (top - (depth - 1)) (get_or cs v 0) lim rs cs ≡ pushes hs ls sink top depth v lim rs cs
 unfolding pushes
@@ -120,7 +120,6 @@ unfolding pushes
 pushes_at hs ls sink top zero v lim rs cs = λ e. refl
 pushes_at hs ls sink top (suc d) v lim rs cs = λ e. absurd (let z : ⊥ = omega arith in z)
 
-pub scans_end : (hs ls : List ℕ) (P : ℕ → ℕ → List ℕ → List ℕ → Out) (v lv at left : ℕ) (rs cs : List ℕ) → at ≡ 0 → scans hs ls P v lv at left rs cs ≡ (rs, set cs v at, left)
-unfolding scans
-scans_end hs ls P v lv zero left rs cs = λ e. refl
-scans_end hs ls P v lv (suc k) left rs cs = λ e. absurd (let z : ⊥ = omega arith in z)
+pub along_end : (hs ls : List ℕ) (P : ℕ → ℕ → List ℕ → List ℕ → Out) (v lv : ℕ) (ks : List ℕ) (left : ℕ) (rs cs : List ℕ) → ks ≡ [] → along hs ls P v lv ks left rs cs ≡ (rs, set cs v 0, left)
+unfolding along
+along_end hs ls P v lv ks left rs cs e = rw e refl

@@ -8,8 +8,8 @@ use Rattle.blocking.specs.Flows.{Flows, Good}
 use Rattle.residual.specs.Layers.{Layered}
 use Rattle.blocking.specs.Phases.{phases, Ended}
 use Rattle.residual.proofs.Chains.{before_place}
-use Rattle.residual.proofs.Moves.{mate_within}
-use Rattle.blocking.proofs.Flows.{pushes_good, cond_add, cond_zero}
+use Rattle.residual.proofs.Moves.{mate_within, cond_add}
+use Rattle.blocking.proofs.Flows.{pushes_good, cond_zero}
 use Rattle.residual.proofs.Layers.{levels_layered}
 use Rattle.blocking.proofs.Progress.{pushes_some}
 
@@ -94,20 +94,19 @@ pub sent_bounded : (hs : List ℕ) (source sink total : ℕ) (rs₀ rs : List �
 sent_bounded hs source sink total rs₀ rs s b = record { bound = λ a h. let e = s.pairs a in let l = s.same in let q = b.bound a (omega arith) in omega arith }
 
 -- what a turn of the loop has, by the code's names
-module _ {hs ns fs : List ℕ} {n : ℕ} (source sink : ℕ) (c : Chained hs ns n) (st : Started hs fs) (len : length fs ≡ n) (small : n ≤ 129) (sin : source < n) where
-  pub run_heads : (a : ℕ) → a < length hs → head_of hs a < length fs
-  run_heads a h = let q = c.heads a h in omega arith
-
-  pub run_layered : (rs : List ℕ) → Layered hs rs source sink (levels hs rs (length fs) source sink)
-  run_layered rs = levels_layered hs rs (length fs) run_heads (λ a h. run_heads (mate_of a) (mate_within a (length hs) c.even h)) source sink (omega arith) (omega arith)
+module _ {hs ns fs : List ℕ} (source sink : ℕ) (c : Chained hs ns (length fs)) (st : Started hs fs) (small : length fs ≤ 129) (sin : source < length fs) where
+  pub run_layered : (rs l : List ℕ) (n : ℕ) → n ≡ length fs → l ≡ levels hs rs n source sink → (l ≡ levels hs rs (length fs) source sink) × Layered hs rs source sink l
+  run_layered rs l n len e =
+      let is : l ≡ levels hs rs (length fs) source sink = e ∙ ap (λ (m : ℕ). levels hs rs m source sink) len in
+      (is, subst (Layered hs rs source sink) (sym is) (levels_layered hs rs (length fs) c.heads (λ a h. c.heads (mate_of a) (mate_within a (length hs) c.even h)) source sink small sin))
 
   pub run_ended : (source ≡ sink → ⊥) → (rs ls : List ℕ) (f : ℕ) → length rs ≡ length hs → outs (λ u. eqb u source) hs rs (length hs) < f → (o : Out) → phases hs fs source sink f rs ls 0 ≡ o → Ended hs source sink rs o
   run_ended ne rs ls f lr most o e =
-      subst (Ended hs source sink rs) e (phases_ended hs fs source sink ne c.even run_heads st (omega arith) (omega arith) rs f rs ls 0 lr (sent_none hs source sink rs) (omega arith))
+      subst (Ended hs source sink rs) e (phases_ended hs fs source sink ne c.even c.heads st small sin rs f rs ls 0 lr (sent_none hs source sink rs) (omega arith))
 
   pub run_sent : (source ≡ sink → ⊥) → (rs₀ rs rs' cs' l : List ℕ) (total r : ℕ) → length rs ≡ length hs → Sent hs source sink rs₀ rs total → Layered hs rs source sink l → (get_or l sink 0 ≡ 0 → ⊥) → r ≤ 1800000000 → pushes hs l sink (get_or l sink 0) (get_or l sink 0 - 1) source 1800000000 rs fs ≡ (rs', cs', 1800000000 - r) → Sent hs source sink rs₀ rs' (total + r)
   run_sent ne rs₀ rs rs' cs' l total r lr s la z le e =
       let o : Out = (rs', cs', 1800000000 - r) in
-      let q = phase_sent hs fs source sink ne c.even run_heads st (omega arith) (omega arith) rs₀ rs total lr s l la (omega arith) o e in
+      let q = phase_sent hs fs source sink ne c.even c.heads st small sin rs₀ rs total lr s l la (omega arith) o e in
       let back : total + (1800000000 - (1800000000 - r)) ≡ total + r = omega arith in
       subst (Sent hs source sink rs₀ rs') back q.0

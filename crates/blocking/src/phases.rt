@@ -1,10 +1,10 @@
 // Dinic's phases.
 ghost use Rattle.std.specs.Prelude.{◌≡◌, ◌<◌, ◌≤◌, length, ◌≢◌, nat_eq};
-ghost use Rattle.residual.specs.Net.{outs, Chained, Started, Bounded};
+ghost use Rattle.residual.specs.Net.{outs, Bounded};
 ghost use Rattle.blocking.specs.Phases.{phases, Ended};
 
 use crate::layers::Layers;
-use residual::Net;
+use residual::{Loaded, Net};
 
 // No network can carry more.
 const MOST: u32 = 1_800_000_000;
@@ -19,24 +19,22 @@ pub(crate) fn max_flow(
     source: usize,
     sink: usize,
 ) -> u32
-    requires net { (Chained net.head.now net.next.now (length level.old)) × (Started net.head.now net.first.now) }
-    requires sizes { (length net.first.now ≡ length level.old) × ((length current.old ≡ length level.old) × ((length left.old ≡ length net.head.now) × (length level.old ≤ 129))) }
+    requires sizes { (length level.old ≡ length net.first.now) × ((length current.old ≡ length net.first.now) × ((length left.old ≡ length net.head.now) × (length net.first.now ≤ 129))) }
     requires ends { (source < length level.old) × ((sink < length level.old) × ((source ≢ sink))) }
     requires sound { (Bounded left.old) × (outs (λ u. nat_eq u source) net.head.now left.old (length net.head.now) ≤ 1800000000) }
     ensures out { phases net.entry.head.now net.entry.first.now source sink 1800000001 left.old level.old 0 ≡ (left.new, level.new, result) }
     ensures ended { Ended net.entry.head.now source sink left.old (left.new, level.new, result) }
 {
     let mut total = 0;
-    for turn in 0..MOST + 1 {
-        net.search(left, level, source, sink);
+    for _turn in 0..MOST + 1 {
+        Loaded { net, left }.search(level, source, sink);
         let top = level[sink] as usize;
         if top == 0 {
             break;
         }
         current.copy_from_slice(net.first);
         let layers = Layers {
-            head: net.head,
-            next: net.next,
+            net,
             level,
             sink,
             top,

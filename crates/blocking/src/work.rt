@@ -1,26 +1,18 @@
 // One solve, in memory of the drawing's size.
-ghost use Rattle.std.specs.Prelude.{◌≡◌, ℕ, ◌+◌, ◌*◌, ◌<◌, ◌≤◌, length, vec_len, slice_index};
+ghost use Rattle.std.specs.Prelude.{◌≡◌, ◌+◌, ◌*◌, length, vec_len};
 ghost use Rattle.drawing.specs.Records.{network, contents, filed};
 ghost use Rattle.residual.specs.Plain.{Plain};
-ghost use Rattle.residual.specs.Readings.{answer_in};
-ghost use Rattle.blocking.specs.Model.{dinic_answer, reached};
+ghost use Rattle.blocking.specs.Model.{dinic_answer};
 
 use crate::phases::max_flow;
 use drawing::{Drawing, Label, Record};
 use filing::{file, terminals};
-use residual::{Net, lay};
-
-// The answer that stands in the arcs: near are the points with a level.
-fn write(drawing: &Drawing, left: &[u32], level: &[u32], total: u32, out: &mut Record)
-    requires sizes { (vec_len drawing.now.points ≤ 128) × ((vec_len drawing.now.runs ≤ 1024) × ((length left.now ≡ 2 * vec_len drawing.now.runs) × (length level.now ≡ vec_len drawing.now.points + 1))) }
-    requires most { (a : ℕ) → a < length left.now → slice_index left.now a ≤ 1800000000 }
-    ensures { contents out.new ≡ filed (answer_in (network drawing.now) left.now (reached level.now) total) }
-{
-    file(drawing, left, level, Label::Near, Label::Far, total, out);
-}
+use residual::lay;
 
 // Writes the answer, in scratch memory with a place for each arc (`head`, `next`, `left`) and a place for each point and
-// for 0 (`first`, `level`, `current`).
+// for 0 (`first`, `level`, `current`). They are fronts of the solver's own memory, which has the largest size and is lent anew
+// to each solve, since no solve allocates. It is not one function with `plan` of `preflow`: each way to a flow needs memory of
+// its own, and the way as a closure over slices would need a contract longer than the four calls.
 pub fn plan(
     drawing: &Drawing,
     head: &mut [u32],
@@ -36,9 +28,8 @@ pub fn plan(
     requires points { (length first.old ≡ vec_len drawing.now.points + 1) × ((length level.old ≡ vec_len drawing.now.points + 1) × (length current.old ≡ vec_len drawing.now.points + 1)) }
     ensures { contents out.new ≡ filed (dinic_answer (network drawing.now)) }
 {
-    lay(drawing.runs.as_slice(), head, next, first, left);
+    let net = lay(drawing.runs.as_slice(), head, next, first, left);
     let (rack, bar) = terminals(drawing.points.as_slice());
-    let net = Net { head, next, first };
-    let total = max_flow(net, left, level, current, rack, bar);
-    write(drawing, left, level, total, out);
+    let total = max_flow(net, left, level, current, rack.unwrap(), bar.unwrap());
+    file(drawing, left, level, Label::Near, Label::Far, total, out);
 }

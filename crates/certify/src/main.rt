@@ -10,20 +10,24 @@ use duality::worked::{example, examples_stand};
 use duality::{Finding, settle};
 use push_relabel::PushRelabel;
 use stacks::standard;
-use std::alloc::{AllocError, Global};
+use std::fmt;
 
 // The letters of the labels, by point.
-fn letters(heap: Global, labels: &[Label]) -> Result<String, AllocError> {
-    let mut text = String::new(heap);
-    for l in labels {
-        text.push(l.letter() as char)?;
+#[derive(Clone, Copy)]
+struct Letters<'a>(&'a [Label]);
+
+impl fmt::Display for Letters<'_> {
+    fn fmt<W: fmt::Write>(&self, f: &mut fmt::Formatter<W>) -> fmt::Result {
+        for label in self.0 {
+            write!(f, "{}", label.letter() as char)?;
+        }
+        Ok(())
     }
-    Ok(text)
 }
 
 // What an answer settles, and its labels.
 fn tell(rt: &HostRuntime, name: &str, d: &Drawing, answer: &Record) -> anyhow::Result<()> {
-    let labels = letters(rt.alloc(), &answer.labels)?;
+    let labels = Letters(&answer.labels);
     match settle(d, answer) {
         Some(Finding::Most(total)) => println!(rt; "{name}: plan, total {total}, labels {labels}")?,
         Some(Finding::NoPlan(worth)) => println!(rt;
@@ -53,139 +57,135 @@ fn tell_damaged(rt: &HostRuntime, what: &str, d: &Drawing, answer: &Record) -> a
     Ok(())
 }
 
-// Example 8 with one flow more than the run's upper.
-fn overfull(rt: &HostRuntime) -> anyhow::Result<()> {
+// Example 8 with one damage to its answer.
+fn tell_damage<F: FnOnce(&mut Record)>(
+    rt: &HostRuntime,
+    what: &str,
+    damage: F,
+) -> anyhow::Result<()>
+    requires { F.IsAlwaysCallable damage }
+{
     if let Some((d, mut answer)) = example(rt.alloc(), 8)? {
-        if let Some(f) = answer.flows.get_mut(0) {
-            *f = 4;
+        damage(&mut answer);
+        tell_damaged(rt, what, &d, &answer)?;
+    }
+    Ok(())
+}
+
+// Writes the item at the place, where the list has that place.
+fn put<T: Copy + Drop>(items: &mut [T], i: usize, item: T) {
+    if let Some(place) = items.get_mut(i) {
+        *place = item;
+    }
+}
+
+// Where solvers write what they answer, to be told.
+#[derive(Drop)]
+struct Desk<'a> {
+    rt: &'a HostRuntime,
+    answer: Record,
+}
+
+impl Desk<'_> {
+    // What a solver answers to a drawing: what that settles and the labels, or the refusal.
+    fn tell_solved<S: Solver>(
+        &mut self,
+        name: &str,
+        d: &Drawing,
+        solver: &mut S,
+    ) -> anyhow::Result<bool> {
+        if let Err(e) = solver.solve(d, &mut self.answer) {
+            println!(self.rt;
+                "{name}: refused by {} for {}",
+                e.number(),
+                e.feature().unwrap_or(0)
+            )?;
+            return Ok(false);
         }
-        tell_damaged(rt, "a flow above its upper", &d, &answer)?;
+        tell(self.rt, name, d, &self.answer)?;
+        Ok(true)
     }
-    Ok(())
-}
 
-// Example 8 with the limited point called far, which makes the worth 4.
-fn mislabelled(rt: &HostRuntime) -> anyhow::Result<()> {
-    if let Some((d, mut answer)) = example(rt.alloc(), 8)? {
-        if let Some(l) = answer.labels.get_mut(1) {
-            *l = Label::Far;
+    // The flows of the runs, in order.
+    fn tell_flows(&self) -> anyhow::Result<()> {
+        print!(self.rt; "  flows")?;
+        for f in &self.answer.flows {
+            print!(self.rt; " {f}")?;
         }
-        tell_damaged(rt, "a label that makes the worth wrong", &d, &answer)?;
+        println!(self.rt; "")?;
+        Ok(())
     }
-    Ok(())
-}
 
-// Example 8 with one unit fewer on the last run.
-fn unbalanced(rt: &HostRuntime) -> anyhow::Result<()> {
-    if let Some((d, mut answer)) = example(rt.alloc(), 8)? {
-        if let Some(f) = answer.flows.get_mut(3) {
-            *f = 2;
+    // One network, with its flows.
+    fn solve_small<S: Solver>(
+        &mut self,
+        name: &str,
+        d: &Drawing,
+        solver: &mut S,
+    ) -> anyhow::Result<()> {
+        if self.tell_solved(name, d, solver)? {
+            self.tell_flows()?;
         }
-        tell_damaged(rt, "a plan that is not balanced", &d, &answer)?;
+        Ok(())
     }
-    Ok(())
-}
 
-// What a solver answers to a drawing: what that settles and the labels, or the refusal.
-fn tell_solved<S: Solver>(
-    rt: &HostRuntime,
-    name: &str,
-    d: &Drawing,
-    solver: &mut S,
-    answer: &mut Record,
-) -> anyhow::Result<bool> {
-    if let Err(e) = solver.solve(d, answer) {
-        println!(rt;
-            "{name}: refused by {} for {}",
-            e.number(),
-            e.feature().unwrap_or(0)
-        )?;
-        return Ok(false);
+    // The plain networks.
+    fn solve_networks<S: Solver>(&mut self, solver: &mut S) -> anyhow::Result<()> {
+        let heap = self.rt.alloc();
+        self.solve_small("diamond", &networks::diamond(heap)?, solver)?;
+        self.solve_small("neck", &networks::neck(heap)?, solver)?;
+        self.solve_small("apart", &networks::apart(heap)?, solver)?;
+        let _ = self.tell_solved("grid", &networks::grid(heap)?, solver)?;
+        let _ = self.tell_solved("chain", &networks::chain(heap)?, solver)?;
+        Ok(())
     }
-    tell(rt, name, d, answer)?;
-    Ok(true)
-}
 
-// The flows of the runs, in order.
-fn tell_flows(rt: &HostRuntime, flows: &[i32]) -> anyhow::Result<()> {
-    print!(rt; "  flows")?;
-    for f in flows {
-        print!(rt; " {f}")?;
-    }
-    println!(rt; "")?;
-    Ok(())
-}
-
-// One network, with its flows.
-fn solve_small<S: Solver>(
-    rt: &HostRuntime,
-    name: &str,
-    d: &Drawing,
-    solver: &mut S,
-    answer: &mut Record,
-) -> anyhow::Result<()> {
-    if tell_solved(rt, name, d, solver, answer)? {
-        tell_flows(rt, &answer.flows)?;
-    }
-    Ok(())
-}
-
-// The plain networks.
-fn solve_networks<S: Solver>(
-    rt: &HostRuntime,
-    solver: &mut S,
-    answer: &mut Record,
-) -> anyhow::Result<()> {
-    let heap = rt.alloc();
-    solve_small(rt, "diamond", &networks::diamond(heap)?, solver, answer)?;
-    solve_small(rt, "neck", &networks::neck(heap)?, solver, answer)?;
-    solve_small(rt, "apart", &networks::apart(heap)?, solver, answer)?;
-    let _ = tell_solved(rt, "grid", &networks::grid(heap)?, solver, answer)?;
-    let _ = tell_solved(rt, "chain", &networks::chain(heap)?, solver, answer)?;
-    Ok(())
-}
-
-// The worked examples.
-fn solve_examples<S: Solver>(
-    rt: &HostRuntime,
-    solver: &mut S,
-    answer: &mut Record,
-) -> anyhow::Result<()> {
-    for k in 1..examples_stand() + 1 {
-        if let Some((d, _)) = example(rt.alloc(), k)? {
-            let name = format!(in rt.alloc(); "example {k}")?;
-            solve_small(rt, &name, &d, solver, answer)?;
+    // The worked examples.
+    fn solve_examples<S: Solver>(&mut self, solver: &mut S) -> anyhow::Result<()> {
+        let heap = self.rt.alloc();
+        for k in 1..examples_stand() + 1 {
+            if let Some((d, _)) = example(heap, k)? {
+                let name = format!(in heap; "example {k}")?;
+                self.solve_small(&name, &d, solver)?;
+            }
         }
+        Ok(())
     }
-    Ok(())
-}
 
-// By each bottom solver alone, which refuses what the examples use, and by the standard stack over it.
-fn solve_by<B: Solver + Drop>(
-    rt: &HostRuntime,
-    name: &str,
-    mut bottom: B,
-    answer: &mut Record,
-) -> anyhow::Result<()> {
-    println!(rt; "by {name}")?;
-    solve_networks(rt, &mut bottom, answer)?;
-    solve_examples(rt, &mut bottom, answer)?;
-    println!(rt; "by the standard stack over {name}")?;
-    let mut stack = standard(rt.alloc(), bottom)?;
-    solve_examples(rt, &mut stack, answer)
+    // By each bottom solver alone, which refuses what the examples use, and by the standard stack over it.
+    fn solve_by<B: Solver + Drop>(&mut self, name: &str, mut bottom: B) -> anyhow::Result<()> {
+        println!(self.rt; "by {name}")?;
+        self.solve_networks(&mut bottom)?;
+        self.solve_examples(&mut bottom)?;
+        println!(self.rt; "by the standard stack over {name}")?;
+        let mut stack = standard(self.rt.alloc(), bottom)?;
+        self.solve_examples(&mut stack)
+    }
 }
 
 fn main(rt: HostRuntime) -> anyhow::Result<()> {
+    let heap = rt.alloc();
     tell_examples(&rt)?;
-    overfull(&rt)?;
-    mislabelled(&rt)?;
-    unbalanced(&rt)?;
-    let mut answer = Record::new(rt.alloc())?;
-    solve_by(&rt, "Dinic's method", Dinic::new(rt.alloc())?, &mut answer)?;
-    solve_by(
+    tell_damage(
         &rt,
-        "push-relabel",
-        PushRelabel::new(rt.alloc())?,
-        &mut answer,
-    )
+        "a flow above its upper",
+        |answer| put(&mut answer.flows, 0, 4),
+    )?;
+    // the limited point called far makes the worth 4
+    tell_damage(
+        &rt,
+        "a label that makes the worth wrong",
+        |answer| put(&mut answer.labels, 1, Label::Far),
+    )?;
+    tell_damage(
+        &rt,
+        "a plan that is not balanced",
+        |answer| put(&mut answer.flows, 3, 2),
+    )?;
+    let mut desk = Desk {
+        rt: &rt,
+        answer: Record::new(heap)?,
+    };
+    desk.solve_by("Dinic's method", Dinic::new(heap)?)?;
+    desk.solve_by("push-relabel", PushRelabel::new(heap)?)
 }

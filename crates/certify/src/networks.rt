@@ -1,16 +1,6 @@
 // Networks of plain leads, with one rack and one bar, to solve.
-use drawing::{Drawing, Kind, Mark, Point, Run};
+use drawing::{Drawing, Mark, Point, Run};
 use std::alloc::{AllocError, Global};
-
-fn lead(tail: usize, head: usize, upper: u32) -> Run {
-    Run {
-        kind: Kind::Lead,
-        tail,
-        head,
-        lower: 0,
-        upper,
-    }
-}
 
 // Point 1 is the rack, point n the bar.
 fn points(heap: Global, n: usize) -> Result<Vec<Point>, AllocError> {
@@ -30,13 +20,12 @@ fn points(heap: Global, n: usize) -> Result<Vec<Point>, AllocError> {
 
 // n points and leads by tail, head and upper.
 fn draw(heap: Global, n: usize, leads: &[(usize, usize, u32)]) -> Result<Drawing, AllocError> {
-    let mut runs = Vec::with_capacity(heap, leads.len())?;
-    for (tail, head, upper) in leads {
-        runs.push(lead(*tail, *head, *upper))?;
-    }
+    let runs = leads
+        .iter()
+        .map(|(tail, head, upper)| Run::lead(*tail, *head, 0, *upper));
     Ok(Drawing {
         points: points(heap, n)?,
-        runs,
+        runs: runs.collect(heap)?,
     })
 }
 
@@ -90,10 +79,10 @@ pub fn grid(heap: Global) -> Result<Drawing, AllocError> {
         for column in 0..11usize {
             let here = row * 11 + column + 1;
             if column < 10 {
-                runs.push(lead(here, here + 1, width(here, row * 7 + column * 5)))?;
+                runs.push(Run::lead(here, here + 1, 0, width(here, row * 7 + column * 5)))?;
             }
             if row < 10 {
-                runs.push(lead(here, here + 11, width(here, row * 4 + column * 8)))?;
+                runs.push(Run::lead(here, here + 11, 0, width(here, row * 4 + column * 8)))?;
             }
         }
     }
@@ -108,7 +97,7 @@ pub fn chain(heap: Global) -> Result<Drawing, AllocError> {
     let mut runs = Vec::new(heap);
     for v in 1..128usize {
         for k in 0..8u32 {
-            runs.push(lead(v, v + 1, 1_000_000 + k))?;
+            runs.push(Run::lead(v, v + 1, 0, 1_000_000 + k))?;
         }
     }
     Ok(Drawing {

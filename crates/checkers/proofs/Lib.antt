@@ -1,2 +1,5 @@
-mod Loops
 mod Guards
+mod Admitting
+mod Bounds
+mod Shapes
+mod Limits

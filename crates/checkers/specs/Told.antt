@@ -1,14 +1,18 @@
 -- What the checks tell as a number: none unless the drawing is admissible and the list fits it.
-use Rattle.std.specs.Prelude.{ℕ, ◌+◌, Bool, cond, not, ◌&&◌, ◌||◌, List, length, ℤ, pos, is_some, Some, None, Option, ◌==◌, nat_lt}
+use Rattle.std.specs.Prelude.{ℕ, ◌+◌, Bool, cond, not, ◌&&◌, ◌||◌, List, [], ◌∷◌, length, ℤ, Some, None, Option, ◌==◌}
+use Rattle.drawing.specs.declared.Feature.{Feature}
+use Rattle.drawing.specs.declared.Feature.TheVariants.{LowerBounds, Links, Limits, Terminals}
 use Rattle.drawing.specs.declared.Label.{Label}
+use Rattle.drawing.specs.declared.Label.TheVariants.{Near, Tight, Far}
 use Rattle.drawing.specs.declared.Mark.{Mark}
+use Rattle.drawing.specs.declared.Mark.TheVariants.{Plain, Rack, Bar}
 use Rattle.drawing.specs.declared.Point.{Point}
 use Rattle.drawing.specs.declared.Run.{Run}
-use Rattle.drawing.specs.Counts.{sum_to, every_to, only, nth}
-use Rattle.drawing.specs.Drawings.{Network, no_point, no_run, point_count, is_rack, is_bar, is_link, limit_of, is_admissible, units}
-use Rattle.drawing.specs.Plans.{brings, takes, sum_of}
+use Rattle.drawing.specs.Counts.{only}
+use Rattle.drawing.specs.Drawings.{Network, point_count, is_rack, is_bar, limit_of, is_admissible, units}
+use Rattle.drawing.specs.Plans.{sum_of}
 use Rattle.drawing.specs.Labels.{is_near, is_tight, is_far, label, adds, deducts, worth}
-use Rattle.drawing.specs.Tests.{is_in_range, is_under, is_labelling}
+use Rattle.drawing.specs.Tests.{is_under, is_labelling}
 
 abbrev pub told_units : Network → Option ℕ
 told_units d = cond (is_admissible d) (Some (units d)) None
@@ -21,26 +25,19 @@ told_total d supplies = cond (is_admissible d && length supplies == point_count 
 abbrev pub told_worth : Network → List Label → Option ℤ
 told_worth d ls = cond (is_admissible d && is_labelling d ls) (Some (worth d ls)) None
 
--- a lead with a lower above 0
-abbrev pub has_lower : Run → Bool
-has_lower r = not (is_link r.kind) && nat_lt 0 r.lower
+-- the drawing of these points and runs
+abbrev pub drawn : List Point → List Run → Network
+drawn points runs = record { points = points; runs = runs }
+
+-- the features, in their order
+abbrev pub features : List Feature
+features = LowerBounds ∷ Links ∷ Limits ∷ Terminals ∷ []
 
 -- what a plan owes at a point: with what is supplied and delivered there, what enters and what leaves
 abbrev pub kept_at : Point → ℕ → ℕ → ℕ → ℕ → Bool
 kept_at p supplied delivered entered left =
     (is_rack p.mark || supplied == 0) && (is_bar p.mark || delivered == 0)
     && entered + supplied == left + delivered && is_under p.limit (entered + supplied)
-
--- each flow is in its run's range
-abbrev pub ranges_in : List Run → List ℤ → Bool
-ranges_in runs flows = every_to (length runs) (λ k. is_in_range (nth runs k no_run).kind (nth runs k no_run).lower (nth runs k no_run).upper (nth flows k (pos 0)))
-
--- what a plan owes at point v, by the lists
-abbrev pub kept_in : List Point → List Run → List ℤ → List ℕ → List ℕ → ℕ → Bool
-kept_in points runs flows supplies deliveries v =
-    kept_at (nth points v no_point) (nth supplies v 0) (nth deliveries v 0)
-    (sum_to (length runs) (λ k. brings (nth runs k no_run) (nth flows k (pos 0)) v))
-    (sum_to (length runs) (λ k. takes (nth runs k no_run) (nth flows k (pos 0)) v))
 
 -- what a run, or a point with a limit, adds to the worth under these labels, and what a run takes away
 abbrev pub run_adds : List Label → Run → ℕ
@@ -52,12 +49,14 @@ run_deducts ls r = deducts r.kind (label ls r.tail) (label ls r.head) r.lower
 abbrev pub point_adds : Label → Option ℕ → ℕ
 point_adds l limit = only (is_tight l) (limit_of limit)
 
--- only a limited point may be tight
-abbrev pub tight_allowed : Label → Option ℕ → Bool
-tight_allowed l limit = not (is_tight l) || is_some limit
+-- whether a mark is the first one
+abbrev pub has_mark : Mark → Mark → Bool
+has_mark Plain m = not (is_rack m) && not (is_bar m)
+has_mark Rack m = is_rack m
+has_mark Bar m = is_bar m
 
-abbrev pub rack_far : Mark → Label → Bool
-rack_far m l = is_rack m && is_far l
-
-abbrev pub bar_near : Mark → Label → Bool
-bar_near m l = is_bar m && is_near l
+-- whether a label is the first one
+abbrev pub has_label : Label → Label → Bool
+has_label Near l = is_near l
+has_label Tight l = is_tight l
+has_label Far l = is_far l

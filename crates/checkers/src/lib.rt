@@ -2,9 +2,9 @@
 #![tactic(auto)]
 
 mod admission;
+mod admitted;
 mod answers;
 mod labels;
-mod lawful;
 mod plans;
 
 pub use admission::{admit, units};

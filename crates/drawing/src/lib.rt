@@ -1,6 +1,9 @@
 // Drawings, answers to them, and what a solver is.
 #![tactic(auto)]
 
+ghost use Rattle.std.specs.Prelude.{◌≡◌};
+ghost use Rattle.drawing.specs.declared.Kind.TheVariants.{Lead, Link};
+
 pub mod codes;
 pub mod lending;
 pub mod record;
@@ -18,7 +21,7 @@ pub enum Mark {
 }
 
 // A limit (a node capacity) bounds the sum of what enters the point and what is supplied there.
-#[derive(Clone, Copy)]
+#[derive(Clone, Copy, PartialEq, Eq)]
 pub struct Point {
     pub mark: Mark,
     pub limit: Option<u32>,
@@ -32,13 +35,41 @@ pub enum Kind {
 }
 
 // Points are numbered from 1. Of a link, tail is the first end and head the second.
-#[derive(Clone, Copy)]
+#[derive(Clone, Copy, PartialEq, Eq)]
 pub struct Run {
     pub kind: Kind,
     pub tail: usize,
     pub head: usize,
     pub lower: u32,
     pub upper: u32,
+}
+
+impl Run {
+    // A lead from tail to head.
+    pub fn lead(tail: usize, head: usize, lower: u32, upper: u32) -> Run
+        ensures { result ≡ record { kind = Lead; tail = tail; head = head; lower = lower; upper = upper } }
+    {
+        Run {
+            kind: Kind::Lead,
+            tail,
+            head,
+            lower,
+            upper,
+        }
+    }
+
+    // A link between the two points.
+    pub fn link(first: usize, second: usize, upper: u32) -> Run
+        ensures { result ≡ record { kind = Link; tail = first; head = second; lower = 0; upper = upper } }
+    {
+        Run {
+            kind: Kind::Link,
+            tail: first,
+            head: second,
+            lower: 0,
+            upper,
+        }
+    }
 }
 
 // Points 1, 2, .. and runs 1, 2, .., in order. Nothing says yet that it keeps the rules.
@@ -72,7 +103,7 @@ pub enum Feature {
 }
 
 // What a solver says of itself: the features that it takes, and its most points, runs and units.
-#[derive(Clone, Copy)]
+#[derive(Clone, Copy, PartialEq, Eq)]
 pub struct Statements {
     pub lowers: bool,
     pub links: bool,

@@ -1,6 +1,7 @@
 -- No feasible plan's total is above the worth of a cut, and a shortage leaves no feasible plan.
-use Rattle.std.proofs.Common.{◌≡◌, ℕ, zero, suc, ◌+◌, ◌≤◌, Bool, true, false, not, ◌&&◌, List, Some, vec_items, Decides, Option, sym, refl, ap, ◌∙◌, ⊎_elim, arith}
+use Rattle.std.proofs.Common.{◌≡◌, ℕ, zero, suc, ◌+◌, ◌≤◌, Bool, true, false, not, ◌&&◌, List, eqb, Some, Decides, refl, ap, ◌∙◌, ⊎_elim, arith}
 use mathlib.Core.Bool.{false≢true}
+use Rattle.std.specs.Option.{option_eq}
 use Rattle.std.proofs.lemmas.Int.{ints}
 use Rattle.std.proofs.lemmas.Bool.{or_parts, and_cases, cases_eq, eqb-true, eq-eqb}
 use Rattle.drawing.specs.declared.Label.{Label}
@@ -10,10 +11,8 @@ use Rattle.drawing.specs.Counts.{Within, sum_to, some_to, only}
 use Rattle.drawing.specs.Drawings.{Network, Lawful, point_count, run_count, point, run, is_rack, is_bar, limit_of}
 use Rattle.drawing.specs.Plans.{Plan, Feasible, flow, supply, delivery, forth, back, entering, leaving, total}
 use Rattle.drawing.specs.Labels.{is_near, is_tight, is_far, label, adds, deducts, Labelling, crossing, throttled, forced, far_rack, near_bar}
-use Rattle.drawing.specs.Answers.{Answer, Planned, Short}
-use Rattle.drawing.specs.declared.record.Record.{Record}
-use Rattle.drawing.specs.Records.{plan_in, answer_in}
-use Rattle.duality.specs.Duality.{WeakDuality, ShortageExcludes, Agree, is_same_ending, AnswersAgree, RightIsMost, PlanExactly}
+use Rattle.drawing.specs.Answers.{Answer, Planned, Short, total_of}
+use Rattle.duality.specs.Duality.{WeakDuality, ShortageExcludes, Agree, AnswersAgree, RightIsMost, PlanExactly}
 use Rattle.drawing.proofs.Sums.{sum_same, sum_below, sum_none, sum_plus, only_le, gather}
 use Rattle.duality.proofs.Flows.{inside, at_point, at_run}
 
@@ -135,27 +134,17 @@ answers_agree d lawful (Planned p t ls) (Short ms) a b = absurd (shortage_exclud
 answers_agree d lawful (Short ls) (Planned q u ms) a b = absurd (shortage_excludes d lawful ls a q b.0)
 answers_agree d lawful (Short ls) (Short ms) a b = (refl, refl)
 
-shortage_no_plan : ShortageVerdict ≡ PlanVerdict → ⊥
-shortage_no_plan e = let z : ◌≡◌ {A = ℕ} 0 1 = cc in omega arith
-
 pub plan_exactly : PlanExactly
 plan_exactly d lawful (Planned p t ls) a = (λ _. (p, a.0), λ _ _. refl)
-plan_exactly d lawful (Short ls) a = (λ e. absurd (shortage_no_plan e), λ p ok. absurd (shortage_excludes d lawful ls a p ok))
+plan_exactly d lawful (Short ls) a = (λ e. cc, λ p ok. absurd (shortage_excludes d lawful ls a p ok))
 
 -- an answer as a verdict has it read
 abbrev pub reading : Verdict → Plan → ℕ → List Label → Answer
 reading v p t ls = elim v [ PlanVerdict ↦ Planned p t ls | ShortageVerdict ↦ Short ls ]
 
-pub some_same : {A : Type 0} {x y : A} → ◌≡◌ {A = Option A} (Some x) (Some y) → x ≡ y
-some_same e = cc
-
-decides_agree : (v : Verdict) (p : Plan) (t : ℕ) (ls : List Label) (w : Verdict) (q : Plan) (u : ℕ) (ms : List Label)
-    → Decides (is_same_ending v t w u) (Agree (reading v p t ls) (reading w q u ms))
-decides_agree PlanVerdict p t ls PlanVerdict q u ms = (λ e. (refl, ap Some (eqb-true t u e)), λ h. eq-eqb t u (some_same h.1))
-decides_agree PlanVerdict p t ls ShortageVerdict q u ms = (λ e. absurd (false≢true e), λ h. absurd (shortage_no_plan (sym h.0)))
-decides_agree ShortageVerdict p t ls PlanVerdict q u ms = (λ e. absurd (false≢true e), λ h. absurd (shortage_no_plan h.0))
-decides_agree ShortageVerdict p t ls ShortageVerdict q u ms = (λ e. (refl, refl), λ h. refl)
-
--- the record's own words for it
-pub decides_records_agree : (a b : Record) → Decides (is_same_ending a.verdict a.total b.verdict b.total) (Agree (answer_in a) (answer_in b))
-decides_records_agree a b = decides_agree a.verdict (plan_in a) a.total (vec_items a.labels) b.verdict (plan_in b) b.total (vec_items b.labels)
+-- the same as a test of totals
+pub decides_agree : (a b : Answer) → Decides (option_eq eqb (total_of a) (total_of b)) (Agree a b)
+decides_agree (Planned p t ls) (Planned q u ms) = (λ e. (refl, ap Some (eqb-true t u e)), λ h. eq-eqb t u (cc))
+decides_agree (Planned p t ls) (Short ms) = (λ e. absurd (false≢true e), λ h. cc)
+decides_agree (Short ls) (Planned q u ms) = (λ e. absurd (false≢true e), λ h. cc)
+decides_agree (Short ls) (Short ms) = (λ e. (refl, refl), λ h. refl)

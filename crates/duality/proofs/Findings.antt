@@ -13,7 +13,7 @@ use Rattle.drawing.proofs.Deciding.{decides_admissible, decides_labelling}
 use Rattle.checkers.specs.Told.{told_total, told_worth}
 use Rattle.duality.specs.declared.Finding.{Finding}
 use Rattle.duality.specs.Findings.{finding_by, Slack, Settled}
-use Rattle.duality.proofs.Duality.{reading, some_same, weak_duality, shortage_excludes, right_is_most}
+use Rattle.duality.proofs.Duality.{reading, weak_duality, shortage_excludes, right_is_most}
 
 pub labelled : (d : Network) (v : Verdict) (p : Plan) (t : ℕ) (ls : List Label) → Right d (reading v p t ls) → Labelling d ls
 labelled d PlanVerdict p t ls right = right.2.labelled
@@ -32,10 +32,10 @@ worth_told d ls ok marked = taken _ (worth d ls) (and_from _ _ ((decides_admissi
 module _ (d : Network) (p : Plan) (ls : List Label) (ok : Admissible d) (feasible : Feasible d p) (cut : Cut d ls) (t : ℕ) (w : ℤ)
     (told : told_total d p.supplies ≡ Some t) (worthy : told_worth d ls ≡ Some w) where
   total_is_told : total p ≡ t
-  total_is_told = some_same (sym (total_told d p ok feasible) ∙ told)
+  total_is_told = cc (total_told d p ok feasible)
 
   worth_is_told : worth d ls ≡ w
-  worth_is_told = some_same (sym (worth_told d ls ok cut.labelled) ∙ worthy)
+  worth_is_told = cc (worth_told d ls ok cut.labelled)
 
   -- a cut's worth less a plan's total is not below 0
   pub not_below : pos t ≤ℤ w
@@ -45,7 +45,7 @@ module _ (d : Network) (p : Plan) (ls : List Label) (ok : Admissible d) (feasibl
   slack_is s e = (ok, feasible, cut, worth_is_told ∙ e ∙ ap (λ n. pos (n + s)) (sym total_is_told))
 
 pub not_none : {A : Type 0} {o : Option A} {x : A} → o ≡ None → o ≡ Some x → ⊥
-not_none p q = let z : ◌≡◌ {A = ℕ} 0 1 = cc in omega arith
+not_none p q = cc
 
 settles : (d : Network) → Admissible d → (v : Verdict) (p : Plan) (t : ℕ) (ls : List Label) → Right d (reading v p t ls)
     → Settled d (reading v p t ls) (Some (finding_by v t (worth d ls)))
@@ -55,6 +55,6 @@ settles d ok ShortageVerdict p t ls right = (ok, right, refl, shortage_excludes 
 pub settled_by : (d : Network) → Admissible d → (v : Verdict) (p : Plan) (t : ℕ) (ls : List Label) → Right d (reading v p t ls)
     → (w : ℤ) → told_worth d ls ≡ Some w → (f : Finding) → f ≡ finding_by v t w → Settled d (reading v p t ls) (Some f)
 settled_by d ok v p t ls right w told f e =
-    let is-worth : worth d ls ≡ w = some_same (sym (worth_told d ls ok (labelled d v p t ls right)) ∙ told) in
+    let is-worth : worth d ls ≡ w = cc (worth_told d ls ok (labelled d v p t ls right)) in
     let is_found : finding_by v t (worth d ls) ≡ f = ap (finding_by v t) is-worth ∙ sym e in
     subst (λ (g : Finding). Settled d (reading v p t ls) (Some g)) is_found (settles d ok v p t ls right)

@@ -1,8 +1,7 @@
 -- What cuts and shortages say of the plans of a drawing.
-use Rattle.std.specs.Prelude.{◌≡◌, ℕ, ◌≤◌, Bool, true, false, List, pos, ◌≤ℤ◌, ◌==◌}
+use Rattle.std.specs.Prelude.{◌≡◌, ℕ, ◌≤◌, List, pos, ◌≤ℤ◌}
 use Rattle.drawing.specs.declared.Label.{Label}
-use Rattle.drawing.specs.declared.Verdict.{Verdict}
-use Rattle.drawing.specs.declared.Verdict.TheVariants.{Plan as PlanVerdict, Shortage as ShortageVerdict}
+use Rattle.drawing.specs.declared.Verdict.TheVariants.{Plan as PlanVerdict}
 use Rattle.drawing.specs.Drawings.{Network, Lawful}
 use Rattle.drawing.specs.Plans.{Plan, Feasible, total}
 use Rattle.drawing.specs.Labels.{worth, Cut, Shortage}
@@ -19,13 +18,6 @@ ShortageExcludes = (d : Network) → Lawful d → (ls : List Label) → Shortage
 -- the same verdict and, with plans, the same total
 abbrev pub Agree : Answer → Answer → Type 0
 Agree a b = (verdict_of a ≡ verdict_of b) × (total_of a ≡ total_of b)
-
--- the same as a test of verdicts and totals
-abbrev pub is_same_ending : Verdict → ℕ → Verdict → ℕ → Bool
-is_same_ending PlanVerdict t PlanVerdict u = t == u
-is_same_ending PlanVerdict t ShortageVerdict u = false
-is_same_ending ShortageVerdict t PlanVerdict u = false
-is_same_ending ShortageVerdict t ShortageVerdict u = true
 
 -- two right answers to one drawing agree
 abbrev pub AnswersAgree : Type 0

@@ -1,3 +1,4 @@
 pub mod Duality
 pub mod Examples
 pub mod Findings
+pub mod Told

@@ -4,11 +4,11 @@
 ghost use Rattle.std.specs.Prelude.{◌≡◌, ◌+◌, true, pos, ◌≤ℤ◌, Decides};
 ghost use Rattle.drawing.specs.Drawings.{Network, Lawful, Admissible};
 ghost use Rattle.drawing.specs.Labels.{Shortage};
-ghost use Rattle.drawing.specs.Answers.{Right};
+ghost use Rattle.drawing.specs.Answers.{Right, total_of};
 ghost use Rattle.drawing.specs.Plans.{plan_of};
 ghost use Rattle.drawing.specs.Records.{network, answer_in};
 ghost use Rattle.duality.specs.Findings.{Slack, finding_by, Settled};
-ghost use Rattle.duality.specs.Duality.{WeakDuality, ShortageExcludes, Agree, is_same_ending, AnswersAgree, RightIsMost, PlanExactly};
+ghost use Rattle.duality.specs.Duality.{WeakDuality, ShortageExcludes, Agree, AnswersAgree, RightIsMost, PlanExactly};
 
 pub mod worked;
 
@@ -23,7 +23,7 @@ pub enum Finding {
 }
 
 // By how much the worth of a cut exceeds the total of a feasible plan, which is never above it.
-// None unless the drawing is admissible, the plan feasible and the labels a cut.
+// None unless the drawing is admissible, the plan feasible and the labels a cut. The plan comes as lists, as to `is_feasible`.
 pub fn slack(
     d: &Drawing,
     flows: &[i32],
@@ -75,17 +75,14 @@ pub fn agree(a: &Record, b: &Record) -> bool
     ensures agrees { AnswersAgree }
     ensures right { (d : Network) → Lawful d → Right d (answer_in a.now) → Right d (answer_in b.now) → result ≡ true }
 {
-    same_ending(a.verdict, a.total, b.verdict, b.total)
+    total_of(a) == total_of(b)
 }
 
-fn same_ending(verdict: Verdict, total: u32, other_verdict: Verdict, other_total: u32) -> bool
-    ensures { result ≡ is_same_ending verdict total other_verdict other_total }
+// A plan's total; None with a shortage.
+fn total_of(answer: &Record) -> Option<u32>
+    ensures { result ≡ total_of (answer_in answer.now) }
 {
-    match (verdict, other_verdict) {
-        (Verdict::Plan, Verdict::Plan) => total == other_total,
-        (Verdict::Shortage, Verdict::Shortage) => true,
-        (Verdict::Plan, Verdict::Shortage) | (Verdict::Shortage, Verdict::Plan) => false,
-    }
+    (answer.verdict == Verdict::Plan).then_some(answer.total)
 }
 
 fn found(verdict: Verdict, total: u32, worth: i64) -> Finding

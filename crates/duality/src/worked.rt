@@ -1,11 +1,10 @@
 // The worked examples as values.
-ghost use Rattle.std.specs.Prelude.{◌≡◌, ◌≤◌, length, IfOk, Some, vec_capacity};
-ghost use Rattle.drawing.specs.Answers.{Planned, Short};
-ghost use Rattle.drawing.specs.Plans.{plan_of};
+ghost use Rattle.std.specs.Prelude.{◌≡◌, ◌≤◌, length, IfOk, IsSomeAnd, vec_capacity};
 ghost use Rattle.drawing.specs.Records.{network, contents, filed};
-ghost use Rattle.duality.specs.Examples.{drawn, examples, ExamplesStand, example_at, Holds, Copied};
+ghost use Rattle.duality.specs.Told.{told_answer};
+ghost use Rattle.duality.specs.Examples.{drawn, examples, ExamplesStand, example_at, Copied};
 
-use drawing::{Drawing, Kind, Label, Mark, Point, Record, Run, Verdict};
+use drawing::{Drawing, Label, Mark, Point, Record, Run, Verdict};
 use std::alloc::{AllocError, Global};
 
 const EXAMPLES: usize = 8;
@@ -41,42 +40,43 @@ fn draw(heap: Global, points: &[Point], runs: &[Run]) -> Result<Drawing, AllocEr
     Ok(Drawing { points, runs })
 }
 
-// A plan as an example tells it.
+// An answer as an example tells it.
 #[derive(Clone, Copy)]
-struct Told<'a> {
-    flows: &'a [i32],
-    supplies: &'a [u32],
-    deliveries: &'a [u32],
-    total: u32,
-    labels: &'a [Label],
+enum Told<'a> {
+    Plan {
+        flows: &'a [i32],
+        supplies: &'a [u32],
+        deliveries: &'a [u32],
+        total: u32,
+        labels: &'a [Label],
+    },
+    Shortage(&'a [Label]),
 }
 
-fn planned(heap: Global, told: Told) -> Result<Record, AllocError>
-    ensures { IfOk result (λ b. contents b ≡ filed (Planned (plan_of told.entry.flows.now told.entry.supplies.now told.entry.deliveries.now) told.entry.total told.entry.labels.now)) }
+fn record(heap: Global, told: Told) -> Result<Record, AllocError>
+    ensures { IfOk result (λ b. contents b ≡ filed (told_answer told.entry)) }
 {
-    Ok(Record {
-        verdict: Verdict::Plan,
-        flows: vec_of(heap, told.flows, 1024)?,
-        supplies: vec_of(heap, told.supplies, 128)?,
-        deliveries: vec_of(heap, told.deliveries, 128)?,
-        total: told.total,
-        labels: vec_of(heap, told.labels, 128)?,
-    })
-}
-
-fn short(heap: Global, labels: &[Label]) -> Result<Record, AllocError>
-    ensures { IfOk result (λ b. contents b ≡ filed (Short labels.now)) }
-{
-    let told = Told {
-        flows: &[],
-        supplies: &[],
-        deliveries: &[],
-        total: 0,
-        labels,
-    };
-    let mut record = planned(heap, told)?;
-    record.verdict = Verdict::Shortage;
-    Ok(record)
+    match told {
+        Told::Plan {
+            flows,
+            supplies,
+            deliveries,
+            total,
+            labels,
+        } => Ok(Record {
+            verdict: Verdict::Plan,
+            flows: vec_of(heap, flows, 1024)?,
+            supplies: vec_of(heap, supplies, 128)?,
+            deliveries: vec_of(heap, deliveries, 128)?,
+            total,
+            labels: vec_of(heap, labels, 128)?,
+        }),
+        Told::Shortage(labels) => {
+            let mut record = Record::new(heap)?;
+            record.labels.extend_from_slice(labels)?;
+            Ok(record)
+        }
+    }
 }
 
 macro_rules! free {
@@ -91,41 +91,16 @@ macro_rules! limited {
     };
 }
 
-macro_rules! lead {
-    ($tail:expr, $head:expr, $lower:expr, $upper:expr) => {
-        Run { kind: Kind::Lead, tail: $tail, head: $head, lower: $lower, upper: $upper }
-    };
-}
-
-macro_rules! link {
-    ($first:expr, $second:expr, $upper:expr) => {
-        Run { kind: Kind::Link, tail: $first, head: $second, lower: 0, upper: $upper }
-    };
-}
-
-fn with_plan(
+fn copied(
     heap: Global,
     points: &[Point],
     runs: &[Run],
     told: Told,
 ) -> Result<Option<(Drawing, Record)>, AllocError>
-    ensures { IfOk result (λ o. Holds (drawn points.now runs.now) (Planned (plan_of told.entry.flows.now told.entry.supplies.now told.entry.deliveries.now) told.entry.total told.entry.labels.now) o) }
+    ensures { IfOk result (λ o. IsSomeAnd o (λ c. (network c.0 ≡ drawn points.now runs.now) × (contents c.1 ≡ filed (told_answer told.entry)))) }
 {
     let drawing = draw(heap, points, runs)?;
-    let record = planned(heap, told)?;
-    Ok(Some((drawing, record)))
-}
-
-fn with_shortage(
-    heap: Global,
-    points: &[Point],
-    runs: &[Run],
-    labels: &[Label],
-) -> Result<Option<(Drawing, Record)>, AllocError>
-    ensures { IfOk result (λ o. Holds (drawn points.now runs.now) (Short labels.now) o) }
-{
-    let drawing = draw(heap, points, runs)?;
-    let record = short(heap, labels)?;
+    let record = record(heap, told)?;
     Ok(Some((drawing, record)))
 }
 
@@ -136,89 +111,91 @@ pub fn example(heap: Global, k: usize) -> Result<Option<(Drawing, Record)>, Allo
     match k {
         1 => {
             let points = [free!(Plain)];
-            let told = Told {
+            let told = Told::Plan {
                 flows: &[],
                 supplies: &[0],
                 deliveries: &[0],
                 total: 0,
                 labels: &[Label::Far],
             };
-            with_plan(heap, &points, &[], told)
+            copied(heap, &points, &[], told)
         }
         2 => {
             let points = [free!(Rack), free!(Bar)];
-            let runs = [lead!(2, 1, 1, 1)];
-            with_shortage(heap, &points, &runs, &[Label::Near, Label::Far])
+            let runs = [Run::lead(2, 1, 1, 1)];
+            let told = Told::Shortage(&[Label::Near, Label::Far]);
+            copied(heap, &points, &runs, told)
         }
         3 => {
             let points = [free!(Rack), free!(Bar)];
-            let runs = [lead!(2, 1, 1, 1), lead!(1, 2, 0, 4)];
-            let told = Told {
+            let runs = [Run::lead(2, 1, 1, 1), Run::lead(1, 2, 0, 4)];
+            let told = Told::Plan {
                 flows: &[1, 4],
                 supplies: &[3, 0],
                 deliveries: &[0, 3],
                 total: 3,
                 labels: &[Label::Near, Label::Far],
             };
-            with_plan(heap, &points, &runs, told)
+            copied(heap, &points, &runs, told)
         }
         4 => {
             let points = [free!(Rack), free!(Plain), free!(Bar)];
-            let runs = [lead!(1, 2, 2, 2), lead!(2, 3, 0, 1)];
-            with_shortage(heap, &points, &runs, &[Label::Far, Label::Near, Label::Far])
+            let runs = [Run::lead(1, 2, 2, 2), Run::lead(2, 3, 0, 1)];
+            let told = Told::Shortage(&[Label::Far, Label::Near, Label::Far]);
+            copied(heap, &points, &runs, told)
         }
         5 => {
             let points = [free!(Bar), free!(Rack)];
-            let runs = [link!(1, 2, 4)];
-            let told = Told {
+            let runs = [Run::link(1, 2, 4)];
+            let told = Told::Plan {
                 flows: &[-4],
                 supplies: &[0, 4],
                 deliveries: &[4, 0],
                 total: 4,
                 labels: &[Label::Far, Label::Near],
             };
-            with_plan(heap, &points, &runs, told)
+            copied(heap, &points, &runs, told)
         }
         6 => {
             let points = [limited!(Rack, 3), free!(Bar)];
-            let runs = [lead!(1, 2, 0, 9)];
-            let told = Told {
+            let runs = [Run::lead(1, 2, 0, 9)];
+            let told = Told::Plan {
                 flows: &[3],
                 supplies: &[3, 0],
                 deliveries: &[0, 3],
                 total: 3,
                 labels: &[Label::Tight, Label::Far],
             };
-            with_plan(heap, &points, &runs, told)
+            copied(heap, &points, &runs, told)
         }
         7 => {
             let points = [free!(Plain), free!(Plain)];
-            let runs = [lead!(1, 2, 1, 1), lead!(2, 1, 1, 1)];
-            let told = Told {
+            let runs = [Run::lead(1, 2, 1, 1), Run::lead(2, 1, 1, 1)];
+            let told = Told::Plan {
                 flows: &[1, 1],
                 supplies: &[0, 0],
                 deliveries: &[0, 0],
                 total: 0,
                 labels: &[Label::Far, Label::Far],
             };
-            with_plan(heap, &points, &runs, told)
+            copied(heap, &points, &runs, told)
         }
         8 => {
             let points = [free!(Rack), limited!(Plain, 3), free!(Plain), free!(Bar)];
             let runs = [
-                lead!(1, 2, 0, 3),
-                lead!(1, 3, 1, 1),
-                link!(2, 3, 2),
-                lead!(2, 4, 0, 9),
+                Run::lead(1, 2, 0, 3),
+                Run::lead(1, 3, 1, 1),
+                Run::link(2, 3, 2),
+                Run::lead(2, 4, 0, 9),
             ];
-            let told = Told {
+            let told = Told::Plan {
                 flows: &[2, 1, -1, 3],
                 supplies: &[3, 0, 0, 0],
                 deliveries: &[0, 0, 0, 3],
                 total: 3,
                 labels: &[Label::Near, Label::Tight, Label::Near, Label::Far],
             };
-            with_plan(heap, &points, &runs, told)
+            copied(heap, &points, &runs, told)
         }
         _ => Ok(None),
     }

@@ -1,5 +1,6 @@
 // The answer that stands in the arcs, written into a record.
-ghost use Rattle.std.specs.Prelude.{◌≡◌, ℕ, ◌+◌, ◌*◌, ◌<◌, ◌≤◌, map, length, pos, if◌then◌else◌, vec_len, vec_capacity, nat_lt, slice_index};
+// The capacity stays, as each writer says: the room of the record or drawing that owns the list is known by it.
+ghost use Rattle.std.specs.Prelude.{◌≡◌, ℕ, ◌+◌, ◌-◌, ◌*◌, ◌/◌, ◌%◌, ◌<◌, ◌≤◌, map, length, if◌then◌else◌, vec_len, vec_capacity, nat_lt, slice_index};
 ghost use Rattle.std.specs.List.{range_with_len};
 ghost use Rattle.drawing.specs.Counts.{only, nth};
 ghost use Rattle.drawing.specs.Drawings.{no_point, point_count};
@@ -8,33 +9,22 @@ ghost use Rattle.drawing.specs.Records.{network, contents, filed};
 ghost use Rattle.filing.specs.Marks.{is_marked};
 ghost use Rattle.residual.specs.Readings.{flows_in, plan_in};
 
-use crate::marks::is_marked;
 use drawing::{Drawing, Label, Mark, Point, Record, Verdict};
 
-fn signed(x: u32) -> i32
-    requires { x ≤ 1800000000 }
-    ensures { result ≡ pos x }
-{
-    x as i32
-}
+// Three loops, since the writer that fills a list from an iterator within its room, `scratch::push_within`, stands in a
+// crate above.
 
 // The flow of each run: what its backward arc can carry.
-fn write_flows(left: &[u32], runs: usize, flows: &mut Vec<i32>)
-    requires sizes { (length left.now ≡ 2 * runs) × ((runs ≤ 1024) × (runs ≤ vec_capacity flows.old)) }
+fn write_flows(left: &[u32], flows: &mut Vec<i32>)
+    requires sizes { (length left.now % 2 ≡ 0) × (length left.now / 2 ≤ vec_capacity flows.old) }
     requires most { (a : ℕ) → a < length left.now → slice_index left.now a ≤ 1800000000 }
-    ensures items { flows.new.items ≡ flows_in runs left.now }
+    ensures items { flows.new.items ≡ flows_in (length left.now / 2) left.now }
     ensures capacity { vec_capacity flows.new ≡ vec_capacity flows.old }
 {
     flows.clear();
-    for k in 0..runs {
-        flows.push_reserved(signed(left[2 * k + 1]));
+    for arcs in left.chunks_exact(2) {
+        flows.push_reserved(arcs[1] as i32);
     }
-}
-
-fn amount(wanted: Mark, mark: Mark, total: u32) -> u32
-    ensures { result ≡ only (is_marked wanted mark) total }
-{
-    if is_marked(wanted, mark) { total } else { 0 }
 }
 
 // The total at each point of the wanted mark, and 0 at the others.
@@ -44,26 +34,20 @@ fn write_amounts(points: &[Point], wanted: Mark, total: u32, amounts: &mut Vec<u
     ensures capacity { vec_capacity amounts.new ≡ vec_capacity amounts.old }
 {
     amounts.clear();
-    for v in 0..points.len() {
-        amounts.push_reserved(amount(wanted, points[v].mark, total));
+    for point in points {
+        amounts.push_reserved(if point.mark == wanted { total } else { 0 });
     }
 }
 
-fn label(level: u32, reached: Label, other: Label) -> Label
-    ensures { result ≡ (if nat_lt 0 level then reached else other) }
-{
-    if level > 0 { reached } else { other }
-}
-
 // `reached` for a point with a level, else `other`.
-fn write_labels(level: &[u32], reached: Label, other: Label, points: usize, labels: &mut Vec<Label>)
-    requires { (length level.now ≡ points + 1) × ((points ≤ 128) × (points ≤ vec_capacity labels.old)) }
-    ensures items { labels.new.items ≡ map (λ v. (if nat_lt 0 (slice_index level.now v) then reached else other)) (range_with_len 1 points) }
+fn write_labels(level: &[u32], reached: Label, other: Label, labels: &mut Vec<Label>)
+    requires { (0 < length level.now) × (length level.now ≤ vec_capacity labels.old + 1) }
+    ensures items { labels.new.items ≡ map (λ v. (if nat_lt 0 (slice_index level.now v) then reached else other)) (range_with_len 1 (length level.now - 1)) }
     ensures capacity { vec_capacity labels.new ≡ vec_capacity labels.old }
 {
     labels.clear();
-    for v in 0..points {
-        labels.push_reserved(label(level[v + 1], reached, other));
+    for own in &level[1..] {
+        labels.push_reserved(if *own > 0 { reached } else { other });
     }
 }
 
@@ -81,8 +65,7 @@ pub fn file(
     requires most { (a : ℕ) → a < length left.now → slice_index left.now a ≤ 1800000000 }
     ensures { contents out.new ≡ filed (Planned (plan_in (network drawing.now) left.now total) total (map (λ v. (if nat_lt 0 (slice_index level.now v) then reached else other)) (range_with_len 1 (point_count (network drawing.now))))) }
 {
-    let points = drawing.points.len();
-    write_flows(left, drawing.runs.len(), &mut out.flows);
+    write_flows(left, &mut out.flows);
     write_amounts(
         drawing.points.as_slice(),
         Mark::Rack,
@@ -95,7 +78,7 @@ pub fn file(
         total,
         &mut out.deliveries,
     );
-    write_labels(level, reached, other, points, &mut out.labels);
+    write_labels(level, reached, other, &mut out.labels);
     out.verdict = Verdict::Plan;
     out.total = total;
 }

@@ -1,5 +1,5 @@
 -- What the questions read of a rig's drawing and record is what the ledger tells.
-use Rattle.std.proofs.Common.{◌≡◌, ℕ, ◌-◌, ◌<◌, ◌≤◌, true, ◌&&◌, leb, ◌⊎◌, List, length, get_or, ℤ, nat_abs, Some, vec_items, Result, sym, refl, ap, ◌∙◌, subst, inl, inr}
+use Rattle.std.proofs.Common.{◌≡◌, ℕ, ◌+◌, ◌-◌, ◌<◌, ◌≤◌, true, ◌&&◌, leb, ◌⊎◌, List, length, get_or, ℤ, nat_abs, Some, vec_items, Result, sym, refl, ap, ◌∙◌, subst, inl, inr, ⊎_elim, add-one, arith}
 use Rattle.std.proofs.lemmas.List.{get_or_default}
 use Rattle.std.proofs.lemmas.Bool.{and_from, le-leb, cond-true}
 use Rattle.drawing.specs.declared.Label.{Label}
@@ -13,21 +13,20 @@ use Rattle.drawing.specs.Labels.{label, Shortage}
 use Rattle.drawing.specs.Answers.{Answer, Planned, Short, Right}
 use Rattle.drawing.specs.Records.{plan_in, answer_in}
 use Rattle.rig_drawing.specs.Changes.{is_point, is_run}
-use Rattle.rig_drawing.proofs.Places.{nth_get_or}
 use Rattle.sheet.specs.Columns.{writing_tells, writing_leaves}
 use Rattle.sheet.specs.Sheets.{sheet_text}
 use Rattle.ledger.specs.declared.Standing.{Standing}
 use Rattle.ledger.specs.declared.Standing.TheVariants.{Planned as IsPlanned, Short as IsShort}
 use Rattle.ledger.specs.Endings.{ending_of, is_sound}
-use Rattle.ledger.specs.Ledgers.{question, label_of, usage, sheet, reply_of, labelled, carries, written, tell, tell_ending, leave}
+use Rattle.ledger.specs.Ledgers.{Reply, question, label_of, usage, sheet, reply_of, labelled, carries, written, tell, tell_ending, leave}
 use Rattle.ledger.proofs.Ending.{sound_planned, sound_short}
 
 -- what is read at an index is the k-th of the list, counted from 1
-pub read_nth : {A : Type 0} (xs : List A) (k : ℕ) (x d : A) → 1 ≤ k → k - 1 < length xs → x ≡ get_or xs (k - 1) x → x ≡ nth xs k d
-read_nth xs k x d some lt e = e ∙ get_or_default xs (k - 1) x d lt ∙ sym (nth_get_or xs k d some)
+pub read_nth : {A : Type 0} (xs : List A) (i k : ℕ) (x d : A) → i + 1 ≡ k → i < length xs → x ≡ get_or xs i x → x ≡ nth xs k d
+read_nth xs i k x d next lt e = e ∙ get_or_default xs i x d lt ∙ ap (λ j. nth xs j d) (sym (add-one i) ∙ next)
 
-pub within : (n v : ℕ) → 1 ≤ v → v ≤ n → (leb 1 v && leb v n) ≡ true
-within n v a b = and_from _ _ (le-leb _ _ a) (le-leb _ _ b)
+pub within : (n i v : ℕ) → i + 1 ≡ v → v ≤ n → (leb 1 v && leb v n) ≡ true
+within n i v next b = and_from _ _ (le-leb _ _ (omega arith)) (le-leb _ _ b)
 
 module _ (d : Network) (r : Record) where
   -- a rig that is planned or short has a right answer
@@ -41,22 +40,16 @@ module _ (d : Network) (r : Record) where
       let (same, right) = sound_short d r (subst (λ t. is_sound d t r ≡ true) is h) in
       subst (Right d) same right
 
-  pub planned_labels : (s : Standing) → s ≡ IsPlanned → is_sound d s r ≡ true → length (vec_items r.labels) ≡ point_count d
-  planned_labels s is h = (planned_right s is h).2.labelled.label_count
-
-  pub short_labels_lem : (s : Standing) → s ≡ IsShort → is_sound d s r ≡ true → length (vec_items r.labels) ≡ point_count d
-  short_labels_lem s is h = (short_right s is h).labelled.label_count
+  pub solved_labels : (s : Standing) → (s ≡ IsPlanned) ⊎ (s ≡ IsShort) → is_sound d s r ≡ true → length (vec_items r.labels) ≡ point_count d
+  solved_labels s is h = ⊎_elim (λ p. (planned_right s p h).2.labelled.label_count) (λ p. (short_right s p h).labelled.label_count) is
 
   pub planned_flows : (s : Standing) → s ≡ IsPlanned → is_sound d s r ≡ true → length (vec_items r.flows) ≡ run_count d
   planned_flows s is h = (planned_right s is h).0.flow_count
 
-  pub planned_label : (s : Standing) (v : ℕ) (x : Label) → s ≡ IsPlanned → is_point d v ≡ true → x ≡ label (vec_items r.labels) v → labelled x ≡ tell_ending d (ending_of s r) (label_of v)
-  planned_label s v x is p e =
-      ap labelled e ∙ sym (ap (λ t. tell_ending d (ending_of t r) (label_of v)) is ∙ cond-true (is_point d v) _ _ p)
-
-  pub short_label_lem : (s : Standing) (v : ℕ) (x : Label) → s ≡ IsShort → is_point d v ≡ true → x ≡ label (vec_items r.labels) v → labelled x ≡ tell_ending d (ending_of s r) (label_of v)
-  short_label_lem s v x is p e =
-      ap labelled e ∙ sym (ap (λ t. tell_ending d (ending_of t r) (label_of v)) is ∙ cond-true (is_point d v) _ _ p)
+  pub solved_label : (s : Standing) (v : ℕ) (x : Label) → (s ≡ IsPlanned) ⊎ (s ≡ IsShort) → is_point d v ≡ true → x ≡ label (vec_items r.labels) v → labelled x ≡ tell_ending d (ending_of s r) (label_of v)
+  solved_label s v x is p e =
+      let asked : Standing → Reply = λ t. tell_ending d (ending_of t r) (label_of v) in
+      ap labelled e ∙ sym (⊎_elim (λ t. ap asked t ∙ cond-true (is_point d v) _ _ p) (λ t. ap asked t ∙ cond-true (is_point d v) _ _ p) is)
 
   pub planned_use : (s : Standing) (k : ℕ) (f : ℤ) (spare : ℕ) (q : Run) → s ≡ IsPlanned → is_run d k ≡ true → f ≡ flow (plan_in r) k → q ≡ run d k → spare ≡ q.upper - nat_abs f
       → carries f spare ≡ tell_ending d (ending_of s r) (usage k)

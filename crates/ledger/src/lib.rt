@@ -1,7 +1,11 @@
 // The calls of a rig and what they are told, as values; the ledger and the law over lists of calls stand in specs.
 #![tactic(auto)]
 
-use drawing::{Label, Refusal};
+ghost use Rattle.std.specs.Prelude.{◌≡◌};
+ghost use Rattle.ledger.specs.Endings.{standing_by};
+
+use drawing::{Label, Refusal, Verdict};
+use std::fmt;
 
 // Without an ending a rig is drawn; with a plan it is planned, with a shortage short.
 #[derive(Clone, Copy, PartialEq, Eq)]
@@ -9,6 +13,28 @@ pub enum Standing {
     Drawn,
     Planned,
     Short,
+}
+
+// The standing that a verdict gives.
+impl From<Verdict> for Standing {
+    ghost from_gives = { λ verdict standing. standing ≡ standing_by verdict };
+
+    fn from(verdict: Verdict) -> Standing {
+        match verdict {
+            Verdict::Plan => Standing::Planned,
+            Verdict::Shortage => Standing::Short,
+        }
+    }
+}
+
+impl fmt::Display for Standing {
+    fn fmt<W: fmt::Write>(&self, f: &mut fmt::Formatter<W>) -> fmt::Result {
+        f.write_str(match self {
+            Standing::Drawn => "drawn",
+            Standing::Planned => "planned",
+            Standing::Short => "short",
+        })
+    }
 }
 
 // A call of a list. A solve holds its solver, a sheet its output.

@@ -1,6 +1,11 @@
 // The limits layer: a solver over any solver, with a lead in place of each limit in the network below.
 #![tactic(auto)]
 
-mod layer;
+mod network;
+mod reading;
+pub mod reduction;
 
-pub use layer::Limits;
+use layering::Layer;
+pub use reduction::WithoutLimits;
+
+pub type Limits<B> = Layer<WithoutLimits, B>;

@@ -1,24 +1,23 @@
--- Steps of the sums over runs, and of the search for the one that passes a test.
-use Rattle.std.proofs.Common.{◌≡◌, ℕ, suc, ◌+◌, ◌<◌, ◌≤◌, Bool, true, false, sym, ap, ◌∙◌, arith}
-use Rattle.std.proofs.lemmas.Bool.{eqb-true, ne_eqb}
-use Rattle.drawing.specs.Counts.{sum_to, only, count_to}
-use Rattle.drawing.proofs.Sums.{sum_below, sum_none}
+-- The place of the one that passes a test.
+use Rattle.std.proofs.Common.{◌≡◌, ℕ, zero, suc, ◌-◌, ◌<◌, Bool, true, false, List, length, Some, None, Option, sym, ap, ◌∙◌, arith}
+use Rattle.std.specs.List.{AllWithin, HoldsAt}
+use Rattle.std.specs.Option.{MatchOption}
+use Rattle.std.proofs.lemmas.Bool.{eqb-true, both_ways}
+use Rattle.drawing.specs.Counts.{Within, count_to, nth}
 use Rattle.reductions.specs.LowerBounds.{the_one}
 use Rattle.reductions.proofs.Ones.{one}
-use Rattle.reductions.proofs.Places.{sum_longer}
-use Rattle.reductions.proofs.Steps.{sum_next}
 
--- the next term fits
-pub next_fits : (n i most : ℕ) (f g : ℕ → ℕ) → ((k : ℕ) → f k ≤ g k) → i < n → sum_to n g ≤ most → sum_to i f + g (suc i) ≤ most
-next_fits n i most f g h lt m = omega (arith, sum_below i f g (λ k w. h k), sum_longer n (suc i) g (omega arith))
+module _ {X : Type 0} (d : X) (t : X → Bool) (xs : List X) where
+  passes_none : (v : ℕ) → Within (length xs) v → t (nth xs v d) ≡ true → AllWithin (λ x. t x ≡ false) xs 0 (length xs) → ⊥
+  passes_none zero w e h = omega arith
+  passes_none (suc k) w e h = both_ways (t (nth xs (suc k) d)) (h k d (omega arith) (omega arith)) e
 
--- the one is here, or it is not
-pub one_here : (n i : ℕ) (t : ℕ → Bool) → count_to n t ≡ 1 → i < n → t (suc i) ≡ true → the_one (i + 1) t ≡ i + 1
-one_here n i t e lt h =
-    let o = one n t e in
-    let at = eqb-true (suc i) (the_one n t) (sym (o.alone (suc i) (omega arith)) ∙ h) in
-    let before = sum_none i (λ v. only (t v) v) (λ v w. ap (λ b. only b v) (o.alone v (omega arith) ∙ ne_eqb v (the_one n t) (λ q. omega arith))) in
-    omega (arith, sum_next (λ v. only (t v) v) i, before, ap (λ b. only b (suc i)) h)
-
-pub one_elsewhere : (i : ℕ) (t : ℕ → Bool) → t (suc i) ≡ false → the_one (i + 1) t ≡ the_one i t
-one_elsewhere i t h = omega (arith, sum_next (λ v. only (t v) v) i, ap (λ b. only b (suc i)) h)
+  -- the first that passes
+  pub one_found : (r : Option ℕ) → count_to (length xs) (λ v. t (nth xs v d)) ≡ 1
+      → MatchOption r (AllWithin (λ x. t x ≡ false) xs 0 (length xs)) (λ i. (i < length xs) × HoldsAt (λ x. t x ≡ true) xs i × AllWithin (λ x. t x ≡ false) xs 0 i)
+      → r ≡ Some (the_one (length xs) (λ v. t (nth xs v d)) - 1)
+  one_found None e h = let o = one (length xs) (λ v. t (nth xs v d)) e in absurd (passes_none _ o.inside o.passes h)
+  one_found (Some i) e (lt, at, before) =
+      let o = one (length xs) (λ v. t (nth xs v d)) e in
+      let q = eqb-true (suc i) (the_one (length xs) (λ v. t (nth xs v d))) (sym (o.alone (suc i) (omega arith)) ∙ at d) in
+      ap (λ k. Some k) (omega (arith, q))

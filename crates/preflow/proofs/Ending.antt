@@ -16,12 +16,12 @@ use Rattle.residual.specs.Plain.{Plain, plain_statements, rack_of, bar_of}
 use Rattle.residual.specs.Readings.{flows_in, labels_by, plan_in, Solved}
 use Rattle.residual.specs.Paths.{Forward, Backward, Steps, ResidualPath}
 use Rattle.residual.proofs.Moves.{mate_within, mate_mate}
-use Rattle.residual.proofs.Pairs.{each_arc, mate_double}
-use Rattle.residual.proofs.Arcs.{length_heads, length_room, head_of_lem, tail_of_lem}
+use Rattle.residual.proofs.Pairs.{each_arc}
+use Rattle.residual.proofs.Arcs.{length_heads, length_room, head_of_lem, tail_of_lem, back_head, back_tail}
 use Rattle.residual.proofs.Rooms.{bounded, outs_few}
 use Rattle.residual.proofs.Terminals.{plain, rack, bar, apart}
 use Rattle.residual.proofs.Rights.{right, nth_made}
-use Rattle.residual.proofs.Reaches.{step_along, steps_near}
+use Rattle.residual.proofs.Reaches.{step_along, steps_near, near_label}
 use Rattle.preflow.specs.Turns.{State, flipped, aims, turns_for, final}
 use Rattle.preflow.specs.Fifo.{Fifo}
 use Rattle.preflow.specs.Rising.{Rising}
@@ -37,18 +37,12 @@ module _ (d : Network) (p : Plain d) where
   abbrev hs : List ℕ
   hs = heads_of d.runs
 
-  tail_back : (k : ℕ) → k < run_count d → tail_of hs (2 * k + 1) ≡ (run d (suc k)).head
-  tail_back k h = ap (λ (x : ℕ). tail_of hs x) (sym (mate_double k)) ∙ ap (λ (x : ℕ). get_or hs x 0) (mate_mate (2 * k)) ∙ head_of_lem d.runs k h
-
-  head_back : (k : ℕ) → k < run_count d → head_of hs (2 * k + 1) ≡ (run d (suc k)).tail
-  head_back k h = ap (λ (x : ℕ). get_or hs x 0) (sym (mate_double k)) ∙ tail_of_lem d.runs k h
-
   by_arc : (P : ℕ → ℕ → Type 0) → ((k : ℕ) → k < run_count d → P (run d (suc k)).tail (run d (suc k)).head) → ((k : ℕ) → k < run_count d → P (run d (suc k)).head (run d (suc k)).tail) → (a : ℕ) → a < length hs → P (tail_of hs a) (head_of hs a)
   by_arc P f b a h =
       let long = length_heads d.runs in
       each_arc (λ a. P (tail_of hs a) (head_of hs a)) (run_count d)
       (λ k q. subst (λ (u : ℕ). P u (head_of hs (2 * k))) (sym (tail_of_lem d.runs k q)) (subst (P (run d (suc k)).tail) (sym (head_of_lem d.runs k q)) (f k q)))
-      (λ k q. subst (λ (u : ℕ). P u (head_of hs (2 * k + 1))) (sym (tail_back k q)) (subst (P (run d (suc k)).head) (sym (head_back k q)) (b k q)))
+      (λ k q. subst (λ (u : ℕ). P u (head_of hs (2 * k + 1))) (sym (back_tail d.runs k q)) (subst (P (run d (suc k)).head) (sym (back_head d.runs k q)) (b k q)))
       a (omega arith)
 
   pub arcs : Arcs hs (point_count d)
@@ -125,10 +119,6 @@ module _ (d : Network) (p : Plain d) where
       let t : tail_of hs (mate_of a) ≡ u = ap (λ (x : ℕ). get_or hs x 0) (mate_mate a) ∙ i.to in
       let s' : Forward d flows u (tail_of hs a) ⊎ Backward d flows u (tail_of hs a) = subst (λ (y : ℕ). Forward d flows y (tail_of hs a) ⊎ Backward d flows y (tail_of hs a)) t s in
       step_first j u (tail_of hs a) (bar_of d) s' (level_steps j (tail_of hs a) (omega (arith, from, e)))
-
-  near_label : (b : Bool) → is_near (cond b Near Far) ≡ b
-  near_label true = refl
-  near_label false = refl
 
   far_label : (b : Bool) → is_far (cond b Near Far) ≡ not b
   far_label true = refl

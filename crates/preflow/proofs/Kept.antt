@@ -1,35 +1,12 @@
 -- What the pushes from a point keep and change.
-use Rattle.std.proofs.Common.{◌≡◌, ℕ, zero, suc, ◌+◌, ◌-◌, ◌%◌, ◌<◌, ◌≤◌, min, Bool, true, false, cond, eqb, ltb, ◌≢◌, ◌⊎◌, List, length, get_or, set, sym, refl, ap, ◌∙◌, subst, inl, inr, ⊎_elim, arith, length-set}
+use Rattle.std.proofs.Common.{◌≡◌, ℕ, zero, suc, ◌+◌, ◌-◌, ◌%◌, ◌<◌, ◌≤◌, min, Bool, true, cond, eqb, ltb, ◌≢◌, ◌⊎◌, List, length, get_or, sym, refl, ap, ◌∙◌, subst, inl, inr, ⊎_elim, arith}
 use Rattle.std.proofs.lemmas.Bool.{eqb-true, eqb-false, ltb-true, lt-ltb, cases_eq, cases_lt, cond_both, eq-eqb, and_parts, and_from, true≢false}
 use Rattle.drawing.specs.Counts.{Within}
 use Rattle.residual.specs.Net.{mate_of, head_of, tail_of, outs, moved}
 use Rattle.preflow.specs.Push.{Out, shifted, apt, joined, scans}
 use Rattle.preflow.specs.Preflow.{whole, exc, Arcs}
-use Rattle.residual.proofs.Moves.{mate_mate, mate_within, moved_length, moved_other, moved_here, moved_mate, moved_pairs, outs_set}
+use Rattle.residual.proofs.Moves.{mate_mate, mate_within, moved_length, moved_other, moved_here, moved_mate, moved_pairs, cond_add, moved_outs}
 use Rattle.preflow.proofs.Sums.{shifted_length, shifted_other, shifted_from, shifted_sum, term, mu, term_push}
-
-pub cond_add : (b : Bool) (x y : ℕ) → cond b (x + y) 0 ≡ cond b x 0 + cond b y 0
-cond_add true x y = refl
-cond_add false x y = refl
-
--- what a move along arc k does to a set of points
-pub moved_outs : (p : ℕ → Bool) (hs rs : List ℕ) (k g : ℕ) → length rs ≡ length hs → length hs % 2 ≡ 0 → k < length hs → g ≤ get_or rs k 0 → outs p hs (moved rs k g) (length hs) + cond (p (tail_of hs k)) g 0 ≡ outs p hs rs (length hs) + cond (p (head_of hs k)) g 0
-unfolding moved
-moved_outs p hs rs k g e ev h le =
-    let n = length hs in
-    let m = mate_of k in
-    let x = get_or rs k 0 - g in
-    let one : List ℕ = set rs k x in
-    let mw : m < n = mate_within k n ev h in
-    let l1 : k < length rs = omega arith in
-    let l2 : m < length one = rw (length-set rs k x) (omega arith) in
-    let a = outs_set p hs rs k x n h l1 in
-    let b = outs_set p hs one m (get_or one m 0 + g) n mw l2 in
-    let whole : get_or rs k 0 ≡ x + g = omega arith in
-    let c : cond (p (tail_of hs k)) (get_or rs k 0) 0 ≡ cond (p (tail_of hs k)) x 0 + cond (p (tail_of hs k)) g 0 = ap (λ (z : ℕ). cond (p (tail_of hs k)) z 0) whole ∙ cond_add (p (tail_of hs k)) x g in
-    let d = cond_add (p (tail_of hs m)) (get_or one m 0) g in
-    let t : cond (p (tail_of hs m)) g 0 ≡ cond (p (head_of hs k)) g 0 = ap (λ (z : ℕ). cond (p (get_or hs z 0)) g 0) (mate_mate k) in
-    omega arith
 
 pub record Kept (hs ds : List ℕ) (n v low : ℕ) (rs es rs' es' : List ℕ) : Type 0 where
   pub same : length rs' ≡ length rs

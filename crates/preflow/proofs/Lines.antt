@@ -12,6 +12,13 @@ use Rattle.preflow.specs.Preflow.{Arcs, Lined}
 use Rattle.preflow.proofs.Sums.{shifted_other, shifted_to}
 use Rattle.preflow.proofs.Kept.{apt_parts, apt_one}
 
+-- a test that fails counts for nothing
+pub gone : (a b : Bool) → a ≡ false → only (a && b) 1 ≡ 0
+gone a b h = grind arith
+
+pub off : (a b : Bool) → b ≡ true → only (a && not b) 1 ≡ 0
+off a b h = grind arith
+
 -- how many in the queue are below k
 below : ℕ → List ℕ → ℕ
 below k qs = count_by (λ w. ltb w k) qs
@@ -112,16 +119,10 @@ module _ (source sink v : ℕ) (es qs : List ℕ) (l : Lined source sink v es qs
       (λ u h. l.line u ∙ gone (active source sink es u) (not (eqb u v)) (active_none source sink es u (get_or_past es u 0 (omega (arith, len, h)))))
       e (omega (arith, win)) in
       omega (arith, s)
-    where
-      gone : (a b : Bool) → a ≡ false → only (a && b) 1 ≡ 0
-      gone a b h = grind arith
 
   -- the point that is served is not in the queue
   pub line_served : times v qs ≡ 0
   line_served = l.line v ∙ off (active source sink es v) (eqb v v) (eq-eqb v v refl)
-    where
-      off : (a b : Bool) → b ≡ true → only (a && not b) 1 ≡ 0
-      off a b h = grind arith
 
   pub line_idle : (w : ℕ) → get_or es w 0 ≡ 0 → times w qs ≡ 0
   line_idle w e = l.line w ∙ ap (λ (b : Bool). only (b && not (eqb w v)) 1) (active_none source sink es w e)
@@ -278,9 +279,6 @@ module _ (source sink v : ℕ) (es rest : List ℕ) (held : (u : ℕ) → times 
         ];
   }
     where
-      off : (a b : Bool) → b ≡ true → only (a && not b) 1 ≡ 0
-      off a b h = grind arith
-
       on : (a b : Bool) → b ≡ false → only (a && not b) 1 ≡ only a 1
       on a b h = grind arith
 

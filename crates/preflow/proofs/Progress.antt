@@ -11,10 +11,12 @@ use Rattle.preflow.specs.Turns.{State, flipped, aims, raised, refreshed, turned,
 use Rattle.preflow.specs.Fifo.{times, Held}
 use Rattle.preflow.specs.Preflow.{whole, exc, Arcs, Ends, Lined, Preflow, Ended}
 use Rattle.preflow.proofs.Sums.{sum_lone, sum_two, term_le, sum_most, term, mu, term_lift, term_most}
-use Rattle.preflow.proofs.Kept.{cond_add, scans_kept, scans_some, scans_closed, apt_from}
+use Rattle.residual.proofs.Moves.{cond_add}
+use Rattle.residual.proofs.Terminals.{none_met}
+use Rattle.preflow.proofs.Kept.{scans_kept, scans_some, scans_closed, apt_from}
 use Rattle.preflow.proofs.Gap.{active_low}
 use Rattle.preflow.proofs.Heights.{la, unreached, aimed, closed, raised_valid, raised_high, raised_ground, raised_low, raised_up, raised_length}
-use Rattle.preflow.proofs.Lines.{active_parts, active_none, idle_none, scans_lined, held_again, front_active, front_lined, source_idle}
+use Rattle.preflow.proofs.Lines.{gone, off, active_parts, active_none, idle_none, scans_lined, held_again, front_active, front_lined, source_idle}
 
 -- the least height that v can push to
 module _ (hs rs ds : List ℕ) (v : ℕ) where
@@ -103,13 +105,7 @@ module _ (n source sink : ℕ) (en : Ends n source sink) where
   first_whole = sum_lone (λ u. get_or (first_excess n source) u 0) source n (en.source_some, en.source_most) (λ u q. first_other 1800000001 u q) ∙ first_source 1800000001
 
   pub first_lined : Lined source sink source (first_excess n source) []
-  first_lined = record { line = λ w. sym (elim (cases_eq w source) [ inl e ↦ by_source (active source sink (first_excess n source) w) (eqb w source) (eq-eqb w source e) | inr e ↦ by_none (active source sink (first_excess n source) w) (not (eqb w source)) (active_none source sink (first_excess n source) w (first_other 1800000001 w e)) ]) }
-    where
-      by_source : (a b : Bool) → b ≡ true → only (a && not b) 1 ≡ 0
-      by_source a b h = grind arith
-
-      by_none : (a b : Bool) → a ≡ false → only (a && b) 1 ≡ 0
-      by_none a b h = grind arith
+  first_lined = record { line = λ w. sym (elim (cases_eq w source) [ inl e ↦ off (active source sink (first_excess n source) w) (eqb w source) (eq-eqb w source e) | inr e ↦ gone (active source sink (first_excess n source) w) (not (eqb w source)) (active_none source sink (first_excess n source) w (first_other 1800000001 w e)) ]) }
 
 cond_nought : (b : Bool) (x : ℕ) → x ≡ 0 → cond b x 0 ≡ 0
 cond_nought true x e = e
@@ -457,11 +453,7 @@ module _ (hs rs₀ : List ℕ) (n source sink : ℕ) (ar : Arcs hs n) (en : Ends
         ⊎_elim (λ e. e) (λ le. absurd (let z : ⊥ = omega (arith, m, le) in z)) (run_all (turns_for n))
 
     pub idle_all : (k : ℕ) → (at k).queue ≡ [] → (u : ℕ) → active source sink (at k).excess u ≡ false
-    idle_all k e u = off (active source sink (at k).excess u) (sym ((states_sound k).held u) ∙ ap (times u) e)
-      where
-        off : (b : Bool) → only b 1 ≡ 0 → b ≡ false
-        off true h = absurd (let z : ⊥ = omega arith in z)
-        off false h = refl
+    idle_all k e u = none_met (active source sink (at k).excess u) (sym ((states_sound k).held u) ∙ ap (times u) e)
 
     pub final_ended : Ended hs source sink rs₀ (final hs n source sink rs₀).left (aims hs (final hs n source sink rs₀).left n source sink) (get_or (final hs n source sink rs₀).excess sink 0)
     final_ended = idle_ended _ _ (final hs n source sink rs₀).height (states_sound (turns_for n)).pre (idle_all (turns_for n) final_idle)

@@ -1,114 +1,95 @@
 -- The steps of the loops, as the code takes them.
-use Rattle.std.proofs.Common.{◌≡◌, ℕ, zero, suc, ◌+◌, ◌-◌, ◌%◌, ◌<◌, ◌≤◌, min, true, false, cond, ◌&&◌, eqb, ltb, List, [], ◌∷◌, ◌++◌, length, get_or, set, sym, refl, ap, ◌∙◌, inl, inr, arith}
+use Rattle.std.proofs.Common.{◌≡◌, ℕ, zero, suc, ◌+◌, ◌-◌, ◌%◌, ◌<◌, ◌≤◌, min, Bool, cond, ◌&&◌, eqb, ltb, List, [], ◌∷◌, ◌++◌, length, fold, get_or, set, sym, refl, ap, ◌∙◌, inl, inr}
 use Rattle.std.proofs.lemmas.Bool.{cases_Bool, cond-true, cond-false, eq-eqb, ne_eqb, lt-ltb, le-ltb, and_from, and_left, and_right}
-use Rattle.residual.specs.Net.{head_of, tail_of, before, moved, Chained, Place}
+use Rattle.residual.specs.Net.{head_of, tail_of, leavers, moved}
 use Rattle.preflow.specs.Push.{Out, shifted, apt, joined, scans, lows, serves}
 use Rattle.preflow.specs.Turns.{State, aims, raised, refreshed, turned}
-use Rattle.residual.proofs.Chains.{follow}
 
--- lows
-module _ (hs rs ds : List ℕ) (v : ℕ) where
-  abbrev next_low : (k low : ℕ) → ℕ
-  next_low k low = cond (eqb (tail_of hs k) v && ltb 0 (get_or rs k 0)) (min low (get_or ds (head_of hs k) 0)) low
+-- the least height, where arc k is tried too
+abbrev pub lower : (hs rs ds : List ℕ) (k low : ℕ) → ℕ
+lower hs rs ds k low = cond (ltb 0 (get_or rs k 0)) (min low (get_or ds (head_of hs k) 0)) low
 
-  pub lows_skip : (k low : ℕ) → lows hs rs ds v k low ≡ lows hs rs ds v (before hs v k) low
-  unfolding before lows
-  lows_skip zero low = refl
-  lows_skip (suc k) low =
-      elim (cases_Bool (eqb (tail_of hs k) v)) [
-        | inl e ↦ rw (cond-true (eqb (tail_of hs k) v) (suc k) (before hs v k) e) refl
-        | inr e ↦
-            rw (cond-false (eqb (tail_of hs k) v) (suc k) (before hs v k) e)
-            (ap (lows hs rs ds v k) (cond-false (eqb (tail_of hs k) v && ltb 0 (get_or rs k 0)) (min low (get_or ds (head_of hs k) 0)) low (and_left _ _ e)) ∙ lows_skip k low)
-      ]
+pub lows_fold : (hs rs ds : List ℕ) (v k low : ℕ) → lows hs rs ds v k low ≡ fold (λ l a. lower hs rs ds a l) low (leavers hs v k)
+unfolding leavers lows
+lows_fold hs rs ds v zero low = refl
+lows_fold hs rs ds v (suc k) low =
+    elim (cases_Bool (eqb (tail_of hs k) v)) [
+      | inl e ↦ rw (cond-true (eqb (tail_of hs k) v) (k ∷ leavers hs v k) (leavers hs v k) e, e) (lows_fold hs rs ds v k (lower hs rs ds k low))
+      | inr e ↦
+          rw (cond-false (eqb (tail_of hs k) v) (k ∷ leavers hs v k) (leavers hs v k) e)
+          (ap (lows hs rs ds v k) (cond-false (eqb (tail_of hs k) v && ltb 0 (get_or rs k 0)) (min low (get_or ds (head_of hs k) 0)) low (and_left _ _ e)) ∙ lows_fold hs rs ds v k low)
+    ]
 
-  lows_one : (at low : ℕ) → 0 < at → lows hs rs ds v at low ≡ lows hs rs ds v (at - 1) (next_low (at - 1) low)
-  unfolding lows
-  lows_one zero low = λ h. absurd (let z : ⊥ = omega arith in z)
-  lows_one (suc k) low = let one : suc k - 1 ≡ k = omega arith in rw one (λ h. refl)
+-- arc k takes some of the excess: it is open and goes to a point of height low
+abbrev takes : (hs ds : List ℕ) (low k : ℕ) (rs : List ℕ) → Bool
+takes hs ds low k rs = ltb 0 (get_or rs k 0) && eqb (get_or ds (head_of hs k) 0) low
 
-  module _ (ns : List ℕ) (n at low : ℕ) (c : Chained hs ns n) (p : Place hs v at) (h : 0 < at) where
-    on : (x : ℕ) → lows hs rs ds v (at - 1) x ≡ lows hs rs ds v (get_or ns (at - 1) 0) x
-    on x = lows_skip (at - 1) x ∙ ap (λ (y : ℕ). lows hs rs ds v y x) (sym (follow v at c p h))
-
-    pub lows_open : 0 < get_or rs (at - 1) 0 → lows hs rs ds v at low ≡ lows hs rs ds v (get_or ns (at - 1) 0) (min low (get_or ds (head_of hs (at - 1)) 0))
-    lows_open w =
-        lows_one at low h ∙ ap (lows hs rs ds v (at - 1)) (cond-true _ (min low (get_or ds (head_of hs (at - 1)) 0)) low (and_from _ _ (eq-eqb (tail_of hs (at - 1)) v (p.leaves h)) (lt-ltb 0 (get_or rs (at - 1) 0) w))) ∙ on _
-
-    pub lows_shut : get_or rs (at - 1) 0 ≤ 0 → lows hs rs ds v at low ≡ lows hs rs ds v (get_or ns (at - 1) 0) low
-    lows_shut w =
-        lows_one at low h ∙ ap (lows hs rs ds v (at - 1)) (cond-false _ (min low (get_or ds (head_of hs (at - 1)) 0)) low (and_right (eqb (tail_of hs (at - 1)) v) _ (le-ltb 0 (get_or rs (at - 1) 0) w))) ∙ on _
-
-pub lows_end : (hs rs ds : List ℕ) (v at low : ℕ) → at ≡ 0 → lows hs rs ds v at low ≡ low
-unfolding lows
-lows_end hs rs ds v zero low = λ e. refl
-lows_end hs rs ds v (suc k) low = λ e. absurd (let z : ⊥ = omega arith in z)
-
--- scans
 module _ (hs ds : List ℕ) (source sink v low : ℕ) where
-  pub scans_skip : (k : ℕ) (rs es qs : List ℕ) → scans hs ds source sink v low k rs es qs ≡ scans hs ds source sink v low (before hs v k) rs es qs
-  unfolding before scans apt
-  scans_skip zero rs es qs = refl
-  scans_skip (suc k) rs es qs =
+  -- a scan of the listed arcs, which leave v
+  unfoldable pub along : (ks rs es qs : List ℕ) → Out
+  along [] rs es qs = (rs, es, qs)
+  along (k ∷ ks) rs es qs =
+      let x : ℕ = min (get_or es v 0) (get_or rs k 0) in
+      let w : ℕ = head_of hs k in
+      let js : List ℕ = joined source sink (get_or es w 0) w qs in
+      cond (takes hs ds low k rs)
+      (cond (eqb (get_or (shifted es v w x) v 0) 0)
+      (moved rs k x, shifted es v w x, js)
+      (along ks (moved rs k x) (shifted es v w x) js))
+      (along ks rs es qs)
+
+  pub scans_along : (k : ℕ) (rs es qs : List ℕ) → scans hs ds source sink v low k rs es qs ≡ along (leavers hs v k) rs es qs
+  unfolding leavers scans apt along
+  scans_along zero rs es qs = refl
+  scans_along (suc k) rs es qs =
+      let x : ℕ = min (get_or es v 0) (get_or rs k 0) in
+      let w : ℕ = head_of hs k in
+      let js : List ℕ = joined source sink (get_or es w 0) w qs in
       elim (cases_Bool (eqb (tail_of hs k) v)) [
-        | inl e ↦ rw (cond-true (eqb (tail_of hs k) v) (suc k) (before hs v k) e) refl
+        | inl e ↦
+            rw (cond-true (eqb (tail_of hs k) v) (k ∷ leavers hs v k) (leavers hs v k) e, e)
+            (ap (λ (o : Out). cond (takes hs ds low k rs) (cond (eqb (get_or (shifted es v w x) v 0) 0) (moved rs k x, shifted es v w x, js) o) (scans hs ds source sink v low k rs es qs)) (scans_along k (moved rs k x) (shifted es v w x) js)
+            ∙ ap (cond (takes hs ds low k rs) (cond (eqb (get_or (shifted es v w x) v 0) 0) (moved rs k x, shifted es v w x, js) (along (leavers hs v k) (moved rs k x) (shifted es v w x) js))) (scans_along k rs es qs))
         | inr e ↦
-            rw (cond-false (eqb (tail_of hs k) v) (suc k) (before hs v k) e)
-            (cond-false (eqb (tail_of hs k) v && (ltb 0 (get_or rs k 0) && eqb (get_or ds (head_of hs k) 0) low)) _ _ (and_left _ _ e) ∙ scans_skip k rs es qs)
+            rw (cond-false (eqb (tail_of hs k) v) (k ∷ leavers hs v k) (leavers hs v k) e)
+            (cond-false (eqb (tail_of hs k) v && takes hs ds low k rs) _ _ (and_left _ _ e) ∙ scans_along k rs es qs)
       ]
 
-  scans_none : (at : ℕ) (rs es qs : List ℕ) → 0 < at → apt hs ds v low (at - 1) rs ≡ false → scans hs ds source sink v low at rs es qs ≡ scans hs ds source sink v low (at - 1) rs es qs
-  unfolding scans
-  scans_none zero rs es qs = λ h e. absurd (let z : ⊥ = omega arith in z)
-  scans_none (suc k) rs es qs = let one : suc k - 1 ≡ k = omega arith in rw one (λ h e. cond-false _ _ _ e)
+  pub along_end : (ks rs es qs : List ℕ) → ks ≡ [] → along ks rs es qs ≡ (rs, es, qs)
+  unfolding along
+  along_end ks rs es qs e = rw e refl
 
-  after_push : (k x : ℕ) (rs es : List ℕ) (j : List ℕ) → Out
-  after_push k x rs es j =
-      cond (eqb (get_or (shifted es v (head_of hs k) x) v 0) 0)
-      (moved rs k x, shifted es v (head_of hs k) x, j)
-      (scans hs ds source sink v low k (moved rs k x) (shifted es v (head_of hs k) x) j)
+  module _ (k : ℕ) (ks rs es qs : List ℕ) where
+    pub along_shut : get_or rs k 0 ≤ 0 → along (k ∷ ks) rs es qs ≡ along ks rs es qs
+    unfolding along
+    along_shut z = cond-false _ _ _ (and_left (ltb 0 (get_or rs k 0)) _ (le-ltb 0 (get_or rs k 0) z))
 
-  scans_apt : (at : ℕ) (rs es qs : List ℕ) → 0 < at → apt hs ds v low (at - 1) rs ≡ true → scans hs ds source sink v low at rs es qs ≡ after_push (at - 1) (min (get_or es v 0) (get_or rs (at - 1) 0)) rs es (joined source sink (get_or es (head_of hs (at - 1)) 0) (head_of hs (at - 1)) qs)
-  unfolding scans after_push
-  scans_apt zero rs es qs = λ h e. absurd (let z : ⊥ = omega arith in z)
-  scans_apt (suc k) rs es qs = let one : suc k - 1 ≡ k = omega arith in rw one (λ h e. cond-true _ _ _ e)
+    pub along_off : (get_or ds (head_of hs k) 0 ≡ low → ⊥) → along (k ∷ ks) rs es qs ≡ along ks rs es qs
+    unfolding along
+    along_off z = cond-false _ _ _ (and_right (ltb 0 (get_or rs k 0)) _ (ne_eqb (get_or ds (head_of hs k) 0) low z))
 
-  module _ (ns : List ℕ) (n at : ℕ) (rs es qs : List ℕ) (c : Chained hs ns n) (p : Place hs v at) (h : 0 < at) where
-    on_next : (r e q : List ℕ) → scans hs ds source sink v low (at - 1) r e q ≡ scans hs ds source sink v low (get_or ns (at - 1) 0) r e q
-    on_next r e q = scans_skip (at - 1) r e q ∙ ap (λ (x : ℕ). scans hs ds source sink v low x r e q) (sym (follow v at c p h))
+    after_push : (x : ℕ) (j : List ℕ) → Out
+    after_push x j =
+        cond (eqb (get_or (shifted es v (head_of hs k) x) v 0) 0)
+        (moved rs k x, shifted es v (head_of hs k) x, j)
+        (along ks (moved rs k x) (shifted es v (head_of hs k) x) j)
 
-    pub scans_shut : get_or rs (at - 1) 0 ≤ 0 → scans hs ds source sink v low at rs es qs ≡ scans hs ds source sink v low (get_or ns (at - 1) 0) rs es qs
-    unfolding apt
-    scans_shut z = scans_none at rs es qs h (and_right (eqb (tail_of hs (at - 1)) v) _ (and_left (ltb 0 (get_or rs (at - 1) 0)) _ (le-ltb 0 (get_or rs (at - 1) 0) z))) ∙ on_next rs es qs
-
-    pub scans_off : (get_or ds (head_of hs (at - 1)) 0 ≡ low → ⊥) → scans hs ds source sink v low at rs es qs ≡ scans hs ds source sink v low (get_or ns (at - 1) 0) rs es qs
-    unfolding apt
-    scans_off z = scans_none at rs es qs h (and_right (eqb (tail_of hs (at - 1)) v) _ (and_right (ltb 0 (get_or rs (at - 1) 0)) _ (ne_eqb (get_or ds (head_of hs (at - 1)) 0) low z))) ∙ on_next rs es qs
-
-    pub at_apt : 0 < get_or rs (at - 1) 0 → get_or ds (head_of hs (at - 1)) 0 ≡ low → apt hs ds v low (at - 1) rs ≡ true
-    unfolding apt
-    at_apt wide up = and_from _ _ (eq-eqb _ _ (p.leaves h)) (and_from _ _ (lt-ltb _ _ wide) (eq-eqb _ _ up))
-
-    module _ (x : ℕ) (qs' : List ℕ) (wide : 0 < get_or rs (at - 1) 0) (up : get_or ds (head_of hs (at - 1)) 0 ≡ low)
-        (is : x ≡ min (get_or es v 0) (get_or rs (at - 1) 0)) (j : joined source sink (get_or es (head_of hs (at - 1)) 0) (head_of hs (at - 1)) qs ≡ qs') where
-      goes : scans hs ds source sink v low at rs es qs ≡ after_push (at - 1) x rs es qs'
+    module _ (x : ℕ) (qs' : List ℕ) (wide : 0 < get_or rs k 0) (up : get_or ds (head_of hs k) 0 ≡ low)
+        (is : x ≡ min (get_or es v 0) (get_or rs k 0)) (j : joined source sink (get_or es (head_of hs k) 0) (head_of hs k) qs ≡ qs') where
+      goes : along (k ∷ ks) rs es qs ≡ after_push x qs'
+      unfolding along after_push
       goes =
-          scans_apt at rs es qs h (at_apt wide up)
-          ∙ ap (λ (y : ℕ). after_push (at - 1) y rs es (joined source sink (get_or es (head_of hs (at - 1)) 0) (head_of hs (at - 1)) qs)) (sym is)
-          ∙ ap (after_push (at - 1) x rs es) j
+          cond-true _ _ _ (and_from _ _ (lt-ltb _ _ wide) (eq-eqb _ _ up))
+          ∙ ap (λ (y : ℕ). after_push y (joined source sink (get_or es (head_of hs k) 0) (head_of hs k) qs)) (sym is)
+          ∙ ap (after_push x) j
 
-      pub scans_stop : get_or (shifted es v (head_of hs (at - 1)) x) v 0 ≡ 0 → scans hs ds source sink v low at rs es qs ≡ (moved rs (at - 1) x, shifted es v (head_of hs (at - 1)) x, qs')
+      pub along_stop : get_or (shifted es v (head_of hs k) x) v 0 ≡ 0 → along (k ∷ ks) rs es qs ≡ (moved rs k x, shifted es v (head_of hs k) x, qs')
       unfolding after_push
-      scans_stop z = goes ∙ cond-true _ _ _ (eq-eqb _ _ z)
+      along_stop z = goes ∙ cond-true _ _ _ (eq-eqb _ _ z)
 
-      pub scans_more : (get_or (shifted es v (head_of hs (at - 1)) x) v 0 ≡ 0 → ⊥) → scans hs ds source sink v low at rs es qs ≡ scans hs ds source sink v low (get_or ns (at - 1) 0) (moved rs (at - 1) x) (shifted es v (head_of hs (at - 1)) x) qs'
+      pub along_more : (get_or (shifted es v (head_of hs k) x) v 0 ≡ 0 → ⊥) → along (k ∷ ks) rs es qs ≡ along ks (moved rs k x) (shifted es v (head_of hs k) x) qs'
       unfolding after_push
-      scans_more z = goes ∙ cond-false _ _ _ (ne_eqb _ _ z) ∙ on_next _ _ _
-
-pub scans_end : (hs ds : List ℕ) (source sink v low at : ℕ) (rs es qs : List ℕ) → at ≡ 0 → scans hs ds source sink v low at rs es qs ≡ (rs, es, qs)
-unfolding scans
-scans_end hs ds source sink v low zero rs es qs = λ e. refl
-scans_end hs ds source sink v low (suc k) rs es qs = λ e. absurd (let z : ⊥ = omega arith in z)
+      along_more z = goes ∙ cond-false _ _ _ (ne_eqb _ _ z)
 
 -- the code's two writes of excesses
 pub shifted_is : (es : List ℕ) (v w x : ℕ) → set (set es v (get_or es v 0 - x)) w (get_or (set es v (get_or es v 0 - x)) w 0 + x) ≡ shifted es v w x

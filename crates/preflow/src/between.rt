@@ -1,76 +1,70 @@
 // What one turn does: a lift, pushes, and now and then a relabelling of all points.
-ghost use Rattle.std.specs.Prelude.{◌≡◌, ℕ, ◌+◌, ◌-◌, ◌%◌, ◌<◌, ◌≤◌, length, ◌≢◌, slice_index, slice_set};
+ghost use Rattle.std.specs.Prelude.{◌≡◌, ◌+◌, ◌-◌, ◌%◌, ◌<◌, ◌≤◌, length, ◌≢◌, slice_index, slice_set};
 ghost use Rattle.std.specs.VecDeque.{deque_len, deque_capacity};
-ghost use Rattle.residual.specs.Net.{Chained, Started, Bounded};
+ghost use Rattle.residual.specs.Net.{Bounded};
 ghost use Rattle.preflow.specs.Push.{joined, active, scans, lows, serves};
 ghost use Rattle.preflow.specs.Turns.{State, aims, raised, turned};
 ghost use Rattle.preflow.specs.Preflow.{whole, Arcs, Ends, Lined};
 
-use residual::{Net, carry};
+use residual::{Loaded, Net, carry, mate};
 use std::collections::VecDeque;
 
-// Raises each height to the point's distance to the sink.
+// Raises each height to the point's distance to the sink. The level by its number: with `zip` in place of `enumerate` a proof
+// knows how long the heights are afterwards, and no item of them.
 fn raise(level: &[u32], height: &mut [u32], points: usize)
     requires { (length height.old ≡ points + 1) × ((length level.now ≡ points + 1) × (points ≤ 128)) }
     ensures { height.new ≡ raised points level.now height.old }
 {
-    for v in 0..points + 1 {
+    for (v, own) in height.iter_mut().enumerate() {
         let d = if level[v] == 0 {
             points as u32
         } else {
             level[v] - 1
         };
-        height[v] = height[v].max(d);
+        *own = (*own).max(d);
     }
 }
 
-// The arcs of a network between a source and a sink, as in `Net`.
+// A network of so many points, between two of them. What a turn changes is passed beside it, as slices: a struct of
+// `&mut` fields would have each method say that every field is the same borrow still and which of them it left alone,
+// and where it is lent the front of a `Vec`, nothing tells afterwards how long that is.
 #[derive(Clone, Copy)]
 pub(crate) struct Between<'a> {
-    pub head: &'a [u32],
-    pub next: &'a [u32],
-    pub first: &'a [u32],
+    pub net: Net<'a>,
     pub points: usize,
     pub source: usize,
     pub sink: usize,
+    ghost counted: { length net.first.now ≡ points + 1 },
+    ghost few: { points ≤ 128 },
+    ghost arcs: { Arcs net.head.now points },
+    ghost ends: { Ends points source sink },
 }
 
 impl Between<'_> {
     // The levels of a search backward from the sink.
     pub(crate) fn aim(self, left: &[u32], back: &mut [u32], level: &mut [u32])
-        requires net { (Chained self.head.now self.next.now (self.points + 1)) × (Started self.head.now self.first.now) }
-        requires sizes { (length self.first.now ≡ self.points + 1) × ((length left.now ≡ length self.head.now) × ((length back.old ≡ length self.head.now) × (length level.old ≡ self.points + 1))) }
-        requires ends { Ends self.points self.source self.sink }
-        ensures { level.new ≡ aims self.entry.head.now left.now self.entry.points self.entry.source self.entry.sink }
+        requires sizes { (length left.now ≡ length self.net.head.now) × ((length back.old ≡ length self.net.head.now) × (length level.old ≡ self.points + 1)) }
+        ensures { level.new ≡ aims self.entry.net.head.now left.now self.entry.points self.entry.source self.entry.sink }
     {
-        for k in 0..left.len() / 2 {
-            back[2 * k] = left[2 * k + 1];
-            back[2 * k + 1] = left[2 * k];
+        for (a, open) in back.iter_mut().enumerate() {
+            *open = left[mate(a)];
         }
-        let net = Net {
-            head: self.head,
-            next: self.next,
-            first: self.first,
-        };
-        net.search(back, level, self.sink, self.source);
+        let net = self.net;
+        Loaded { net, left: back }.search(level, self.sink, self.source);
     }
 
-    // The least height that an open arc from v goes to, or 1000.
+    // The least height that an open arc from v goes to, or 1000 for no open arc: every height is below it.
     fn lowest(self, left: &[u32], height: &[u32], v: usize) -> u32
-        requires net { (Chained self.head.now self.next.now (length height.now)) × (Started self.head.now self.first.now) }
-        requires sizes { (length self.first.now ≡ length height.now) × (length left.now ≡ length self.head.now) }
-        requires here { v < length height.now }
-        ensures out { result ≡ lows self.entry.head.now left.now height.now v (length self.entry.head.now) 1000 }
+        requires sizes { (length left.now ≡ length self.net.head.now) × (length height.now ≡ self.points + 1) }
+        requires here { v ≤ self.points }
+        ensures out { result ≡ lows self.entry.net.head.now left.now height.now v (length self.entry.net.head.now) 1000 }
         ensures most { result ≤ 1000 }
     {
         let mut low: u32 = 1000;
-        let mut at = self.first[v] as usize;
-        while at > 0 {
-            let a = at - 1;
+        for a in self.net.leaving(v) {
             if left[a] > 0 {
-                low = low.min(height[self.head[a] as usize]);
+                low = low.min(height[self.net.head[a] as usize]);
             }
-            at = self.next[a] as usize;
         }
         low
     }
@@ -96,18 +90,15 @@ impl Between<'_> {
         v: usize,
         low: u32,
     )
-        requires net { (Chained self.head.now self.next.now (self.points + 1)) × ((Started self.head.now self.first.now) × (Arcs self.head.now self.points)) }
-        requires sizes { (length self.first.now ≡ self.points + 1) × ((length left.old ≡ length self.head.now) × ((length excess.old ≡ self.points + 1) × (length height.now ≡ self.points + 1))) }
-        requires here { (0 < v) × ((v ≤ self.points) × ((self.points ≤ 128) × ((0 < slice_index excess.old v) × ((slice_index height.now v ≢ low))))) }
+        requires sizes { (length left.old ≡ length self.net.head.now) × ((length excess.old ≡ self.points + 1) × (length height.now ≡ self.points + 1)) }
+        requires here { (0 < v) × ((v ≤ self.points) × ((0 < slice_index excess.old v) × (slice_index height.now v ≢ low))) }
         requires sound { (Bounded left.old) × (whole excess.old self.points ≤ 1800000001) }
         requires queue { (Lined self.source self.sink v excess.old queue.old.items) × (self.points < deque_capacity queue.old) }
-        ensures out { scans self.entry.head.now height.now self.entry.source self.entry.sink v low (length self.entry.head.now) left.old excess.old queue.old.items ≡ (left.new, excess.new, queue.new.items) }
+        ensures out { scans self.entry.net.head.now height.now self.entry.source self.entry.sink v low (length self.entry.net.head.now) left.old excess.old queue.old.items ≡ (left.new, excess.new, queue.new.items) }
         ensures capacity { deque_capacity queue.new ≡ deque_capacity queue.old }
     {
-        let mut at = self.first[v] as usize;
-        while at > 0 {
-            let a = at - 1;
-            let w = self.head[a] as usize;
+        for a in self.net.leaving(v) {
+            let w = self.net.head[a] as usize;
             if left[a] > 0 && height[w] == low {
                 let most = excess[v].min(left[a]);
                 carry(left, a, most);
@@ -118,7 +109,6 @@ impl Between<'_> {
                     break;
                 }
             }
-            at = self.next[a] as usize;
         }
     }
 
@@ -131,13 +121,12 @@ impl Between<'_> {
         queue: &mut VecDeque<usize>,
         v: usize,
     )
-        requires net { (Chained self.head.now self.next.now (self.points + 1)) × ((Started self.head.now self.first.now) × (Arcs self.head.now self.points)) }
-        requires sizes { (length self.first.now ≡ self.points + 1) × ((length left.old ≡ length self.head.now) × ((length excess.old ≡ self.points + 1) × (length height.old ≡ self.points + 1))) }
-        requires here { (0 < v) × ((v ≤ self.points) × ((self.points ≤ 128) × (0 < slice_index excess.old v))) }
+        requires sizes { (length left.old ≡ length self.net.head.now) × ((length excess.old ≡ self.points + 1) × (length height.old ≡ self.points + 1)) }
+        requires here { (0 < v) × ((v ≤ self.points) × (0 < slice_index excess.old v)) }
         requires sound { (Bounded left.old) × (whole excess.old self.points ≤ 1800000001) }
         requires queue { (Lined self.source self.sink v excess.old queue.old.items) × (self.points < deque_capacity queue.old) }
-        ensures lifted { height.new ≡ slice_set height.old v (lows self.entry.head.now left.old height.old v (length self.entry.head.now) 1000 + 1) }
-        ensures out { serves self.entry.head.now height.new self.entry.source self.entry.sink v (lows self.entry.head.now left.old height.old v (length self.entry.head.now) 1000) left.old excess.old queue.old.items ≡ (left.new, excess.new, queue.new.items) }
+        ensures lifted { height.new ≡ slice_set height.old v (lows self.entry.net.head.now left.old height.old v (length self.entry.net.head.now) 1000 + 1) }
+        ensures out { serves self.entry.net.head.now height.new self.entry.source self.entry.sink v (lows self.entry.net.head.now left.old height.old v (length self.entry.net.head.now) 1000) left.old excess.old queue.old.items ≡ (left.new, excess.new, queue.new.items) }
         ensures capacity { deque_capacity queue.new ≡ deque_capacity queue.old }
     {
         let low = self.lowest(left, height, v);
@@ -160,12 +149,12 @@ impl Between<'_> {
         height: &mut [u32],
         queue: &mut VecDeque<usize>,
     )
-        requires net { (Chained self.head.now self.next.now (self.points + 1)) × ((Started self.head.now self.first.now) × ((Arcs self.head.now self.points) × (Ends self.points self.source self.sink))) }
-        requires sizes { (length self.first.now ≡ self.points + 1) × ((length left.old ≡ length self.head.now) × ((length back.old ≡ length self.head.now) × ((length level.old ≡ self.points + 1) × (length excess.old ≡ self.points + 1)))) }
-        requires here { (length height.old ≡ self.points + 1) × ((0 < v) × ((v ≤ self.points) × ((self.points ≤ 128) × (0 < slice_index excess.old v)))) }
+        requires arcs { (length left.old ≡ length self.net.head.now) × (length back.old ≡ length self.net.head.now) }
+        requires points { (length level.old ≡ self.points + 1) × ((length excess.old ≡ self.points + 1) × (length height.old ≡ self.points + 1)) }
+        requires here { (0 < v) × ((v ≤ self.points) × (0 < slice_index excess.old v)) }
         requires sound { (Bounded left.old) × (whole excess.old self.points ≤ 1800000001) }
         requires queue { (Lined self.source self.sink v excess.old queue.old.items) × (self.points < deque_capacity queue.old) }
-        ensures out { turned self.entry.head.now self.entry.points self.entry.source self.entry.sink k v left.entry.now excess.old height.old queue.old.items ≡ record { left = left.exit.now; excess = excess.new; height = height.new; queue = queue.new.items } }
+        ensures out { turned self.entry.net.head.now self.entry.points self.entry.source self.entry.sink k v left.entry.now excess.old height.old queue.old.items ≡ record { left = left.exit.now; excess = excess.new; height = height.new; queue = queue.new.items } }
         ensures capacity { deque_capacity queue.new ≡ deque_capacity queue.old }
     {
         if k % 128 == 127 {

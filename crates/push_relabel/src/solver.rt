@@ -7,6 +7,7 @@ use std::collections::VecDeque;
 
 // It says no to lower bounds, links, limits and terminals and takes 128 points, 1,024 runs and 1,800,000,000 units.
 // Near are the points from which no residual path leads to the bar in the end.
+// A list for each field and not one of structs, since a turn writes some of them while it reads the others, lent apart.
 #[derive(Drop)]
 pub struct PushRelabel {
     net: Residual,

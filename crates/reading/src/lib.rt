@@ -3,8 +3,9 @@
 
 use drawing::Refusal;
 
-// What is wrong with a text: the refusal and the number of the line, from 1; 0 where the whole text is refused.
-#[derive(Clone, Copy)]
+// What is wrong with a text: the refusal and the number of the line, from 1; 0 where the whole text is refused,
+// as the line that tells a fault prints it: no Option, since the number is what is told.
+#[derive(Clone, Copy, PartialEq, Eq)]
 pub struct Fault {
     pub refusal: Refusal,
     pub line: u16,

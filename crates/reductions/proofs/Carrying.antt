@@ -356,6 +356,22 @@ terminals_room b d modest c =
     let own = leb-true (b.points - 2) b.runs own? in
     omega (arith, ps, own, c.few_runs, modest.runs, only_le (terminals_fit b) (b.runs - (b.points - 2)))
 
+-- what the network below a drawing needs
+pub record TerminalsFit (d : Network) : Type 0 where
+  pub few : units d ≤ 600000000
+  pub points : point_count d + 2 ≤ 128
+  pub runs : run_count d + point_count d ≤ 1024
+
+pub terminals_taken : (b : Statements) (d : Network) → Modest b → Carried (terminals_states b) d → TerminalsFit d
+terminals_taken b d modest c =
+    let e = terminals_carried b d modest c in
+    let most = only_le (terminals_fit b) (b.units / 3) in
+    record {
+      few = omega (arith, c.few_units, most, modest.units);
+      points = omega (arith, e.admissible.few_points, point_count_lem d);
+      runs = terminals_room b d modest c;
+    }
+
 pub limits_modest : (b : Statements) → Modest b → Modest (limits_states b)
 limits_modest b h = record {
   points = omega (arith, only_le (limits_fit b) (b.points / 2), h.points);
@@ -382,6 +398,15 @@ limits_room b d modest c =
     let (fit, ps) = fits (limits_fit b) (point_count d) (b.points / 2) c.admissible.lawful.some_point c.few_points in
     let own = leb-true (b.points / 2) b.runs fit in
     omega (arith, ps, own, c.few_runs, modest.runs, only_le (limits_fit b) (b.runs - b.points / 2))
+
+pub record LimitsFit (d : Network) : Type 0 where
+  pub points : point_count d + point_count d ≤ 128
+  pub runs : run_count d + point_count d ≤ 1024
+
+pub limits_taken : (b : Statements) (d : Network) → Modest b → Carried (limits_states b) d → LimitsFit d
+limits_taken b d modest c =
+    let e = limits_carried b d modest c in
+    record { points = omega (arith, e.admissible.few_points, limits.point_count_lem d); runs = limits_room b d modest c }
 
 pub limits_no_links : (b : Statements) (d : Network) → Carried (limits_states b) d → uses d Links ≡ false
 limits_no_links b d c = not_used _ (c.says_yes_to Links)

@@ -2,6 +2,7 @@ pub mod Supplied
 pub mod Places
 pub mod Added
 pub mod Steps
+pub mod Listed
 pub mod Links
 pub mod Relabel
 pub mod Terminals

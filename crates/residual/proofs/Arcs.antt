@@ -6,6 +6,7 @@ use Rattle.drawing.specs.declared.Run.{Run}
 use Rattle.drawing.specs.Drawings.{no_run}
 use Rattle.residual.specs.Net.{before, mate_of, head_of, tail_of, Started}
 use Rattle.residual.specs.Laying.{paired, heads_of, room_of, firsts_of, Ends, Laid}
+use Rattle.residual.proofs.Moves.{mate_mate}
 use Rattle.residual.proofs.Pairs.{each_arc, two_even, two_odd, mate_double}
 
 pub paired_is : (f g : ℕ → ℕ) (m : ℕ) (xs : List ℕ) → length xs ≡ 2 * m → Laid f g m xs → xs ≡ paired f g m
@@ -62,6 +63,12 @@ module _ (runs : List Run) where
 
   pub tail_of_lem : (k : ℕ) → k < length runs → tail_of (heads_of runs) (2 * k) ≡ (get_or runs k no_run).tail
   tail_of_lem k h = ap (λ (x : ℕ). get_or (heads_of runs) x 0) (mate_double k) ∙ (paired_laid (λ k. (get_or runs k no_run).head) (λ k. (get_or runs k no_run).tail) (length runs)).back k h
+
+  pub back_head : (k : ℕ) → k < length runs → head_of (heads_of runs) (2 * k + 1) ≡ (get_or runs k no_run).tail
+  back_head k h = ap (λ (x : ℕ). get_or (heads_of runs) x 0) (sym (mate_double k)) ∙ tail_of_lem k h
+
+  pub back_tail : (k : ℕ) → k < length runs → tail_of (heads_of runs) (2 * k + 1) ≡ (get_or runs k no_run).head
+  back_tail k h = ap (λ (x : ℕ). tail_of (heads_of runs) x) (sym (mate_double k)) ∙ ap (λ (x : ℕ). get_or (heads_of runs) x 0) (mate_mate (2 * k)) ∙ head_of_lem k h
 
   pub room_forth : (k : ℕ) → k < length runs → get_or (room_of runs) (2 * k) 0 ≡ (get_or runs k no_run).upper
   room_forth = (paired_laid (λ k. (get_or runs k no_run).upper) (λ k. 0) (length runs)).forth

@@ -1,8 +1,8 @@
 -- Chains: what `before` gives, and that a scan may follow the chain.
-use Rattle.std.proofs.Common.{◌≡◌, ℕ, zero, suc, ◌+◌, ◌-◌, ◌<◌, ◌≤◌, Bool, true, eqb, List, length, get_or, set, sym, refl, ap, ◌∙◌, inl, inr, ⊎_elim, add-one, arith, length-set, get_or-set_other, get_or-set_same}
+use Rattle.std.proofs.Common.{◌≡◌, ℕ, zero, suc, ◌+◌, ◌-◌, ◌<◌, ◌≤◌, Bool, true, eqb, List, length, get_or, set, sym, ap, ◌∙◌, inl, inr, ⊎_elim, add-one, arith, length-set, get_or-set_other, get_or-set_same}
 use Rattle.std.proofs.lemmas.Bool.{eqb-true, cases_Bool, cases_eq, cond-true, cond-false, eq-eqb, ne_eqb, lt-ltb, le-ltb, and_from, and_left, and_right}
 use Rattle.residual.specs.Net.{head_of, tail_of, before, Chained, Place}
-use Rattle.residual.specs.Search.{Marks, touch, spreads}
+use Rattle.residual.specs.Search.{Marks, touch}
 
 pub before_le : (hs : List ℕ) (v k : ℕ) → before hs v k ≤ k
 unfolding before
@@ -22,16 +22,6 @@ before_tail hs v (suc k) =
       | inr e ↦ rw (cond-false (eqb (tail_of hs k) v) (suc k) (before hs v k) e) (λ h. before_tail hs v k h)
     ]
 
--- arcs that do not leave v change nothing
-pub spreads_skip : (hs rs : List ℕ) (v lv k : ℕ) (s : Marks) → spreads hs rs v lv k s ≡ spreads hs rs v lv (before hs v k) s
-unfolding before spreads
-spreads_skip hs rs v lv zero s = refl
-spreads_skip hs rs v lv (suc k) s =
-    elim (cases_Bool (eqb (tail_of hs k) v)) [
-      | inl e ↦ rw (cond-true (eqb (tail_of hs k) v) (suc k) (before hs v k) e) refl
-      | inr e ↦ rw (cond-false (eqb (tail_of hs k) v) (suc k) (before hs v k) e, cond-false (eqb (tail_of hs k) v) (touch hs rs lv k s) s e) (spreads_skip hs rs v lv k s)
-    ]
-
 pub before_place : (hs : List ℕ) (v k : ℕ) → k ≤ length hs → Place hs v (before hs v k)
 before_place hs v k h = record { within = omega (arith, before_le hs v k); leaves = before_tail hs v k }
 
@@ -46,17 +36,6 @@ follow_place {hs} v at c p h =
 
 pub follow_less : {hs ns : List ℕ} {n : ℕ} (v at : ℕ) → Chained hs ns n → Place hs v at → 0 < at → get_or ns (at - 1) 0 < at
 follow_less {hs} v at c p h = rw (follow v at c p h) (omega (arith, before_le hs v (at - 1)))
-
-pub spreads_one : (hs rs : List ℕ) (v lv at : ℕ) (s : Marks) → 0 < at → tail_of hs (at - 1) ≡ v → spreads hs rs v lv at s ≡ spreads hs rs v lv (at - 1) (touch hs rs lv (at - 1) s)
-unfolding spreads
-spreads_one hs rs v lv zero s = λ h e. absurd (let z : ⊥ = omega arith in z)
-spreads_one hs rs v lv (suc k) s =
-    let one : suc k - 1 ≡ k = omega arith in
-    rw one (λ h e. rw (cond-true (eqb (tail_of hs k) v) (touch hs rs lv k s) s (eq-eqb _ _ e)) refl)
-
-pub spreads_step : {hs ns : List ℕ} {n : ℕ} (rs : List ℕ) (v lv at : ℕ) (s : Marks) → Chained hs ns n → Place hs v at → 0 < at → spreads hs rs v lv at s ≡ spreads hs rs v lv (get_or ns (at - 1) 0) (touch hs rs lv (at - 1) s)
-spreads_step {hs} rs v lv at s c p h =
-    spreads_one hs rs v lv at s h (p.leaves h) ∙ spreads_skip hs rs v lv (at - 1) _ ∙ ap (λ (x : ℕ). spreads hs rs v lv x (touch hs rs lv (at - 1) s)) (sym (follow v at c p h))
 
 pub touch_yes : (hs rs : List ℕ) (lv k : ℕ) (l : List ℕ) (g : Bool) → 0 < get_or rs k 0 → get_or l (head_of hs k) 0 ≡ 0 → touch hs rs lv k (l, g) ≡ (set l (head_of hs k) lv, true)
 unfolding touch

@@ -1,6 +1,7 @@
 pub mod Moves
 pub mod Pairs
 pub mod Chains
+pub mod Leavers
 pub mod Rounds
 pub mod Layers
 pub mod Arcs

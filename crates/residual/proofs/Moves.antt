@@ -1,7 +1,7 @@
 -- Mates, and what a move along an arc changes.
-use Rattle.std.proofs.Common.{◌≡◌, ℕ, zero, suc, ◌+◌, ◌-◌, ◌%◌, ◌<◌, ◌≤◌, Bool, cond, eqb, ◌≢◌, List, length, get_or, set, sym, refl, ap, ◌∙◌, inl, inr, ⊎_elim, arith, length-set, get_or-set_other, get_or-set_same}
+use Rattle.std.proofs.Common.{◌≡◌, ℕ, zero, suc, ◌+◌, ◌-◌, ◌%◌, ◌<◌, ◌≤◌, Bool, true, false, cond, eqb, ◌≢◌, List, length, get_or, set, sym, refl, ap, ◌∙◌, inl, inr, ⊎_elim, arith, length-set, get_or-set_other, get_or-set_same}
 use Rattle.std.proofs.lemmas.Bool.{cases_eq, cond-true, cond-false, eq-eqb, ne_eqb}
-use Rattle.residual.specs.Net.{mate_of, tail_of, outs, moved}
+use Rattle.residual.specs.Net.{mate_of, head_of, tail_of, outs, moved}
 
 pub mate_even : (a : ℕ) → a % 2 ≡ 0 → mate_of a ≡ a + 1
 unfolding mate_of
@@ -92,3 +92,26 @@ moved_is rs a b g e =
     let one : List ℕ = set rs a (get_or rs a 0 - g) in
     ap (λ (x : ℕ). set one x (get_or rs x 0 + g)) e
     ∙ ap (λ (x : ℕ). set one (mate_of a) (x + g)) (sym (get_or-set_other rs a (mate_of a) (get_or rs a 0 - g) 0 (mate_ne a)))
+
+pub cond_add : (b : Bool) (x y : ℕ) → cond b (x + y) 0 ≡ cond b x 0 + cond b y 0
+cond_add true x y = refl
+cond_add false x y = refl
+
+-- what a move along arc k does to a set of points
+pub moved_outs : (p : ℕ → Bool) (hs rs : List ℕ) (k g : ℕ) → length rs ≡ length hs → length hs % 2 ≡ 0 → k < length hs → g ≤ get_or rs k 0 → outs p hs (moved rs k g) (length hs) + cond (p (tail_of hs k)) g 0 ≡ outs p hs rs (length hs) + cond (p (head_of hs k)) g 0
+unfolding moved
+moved_outs p hs rs k g e ev h le =
+    let n = length hs in
+    let m = mate_of k in
+    let x = get_or rs k 0 - g in
+    let one : List ℕ = set rs k x in
+    let mw : m < n = mate_within k n ev h in
+    let l1 : k < length rs = omega arith in
+    let l2 : m < length one = rw (length-set rs k x) (omega arith) in
+    let a = outs_set p hs rs k x n h l1 in
+    let b = outs_set p hs one m (get_or one m 0 + g) n mw l2 in
+    let whole : get_or rs k 0 ≡ x + g = omega arith in
+    let c : cond (p (tail_of hs k)) (get_or rs k 0) 0 ≡ cond (p (tail_of hs k)) x 0 + cond (p (tail_of hs k)) g 0 = ap (λ (z : ℕ). cond (p (tail_of hs k)) z 0) whole ∙ cond_add (p (tail_of hs k)) x g in
+    let d = cond_add (p (tail_of hs m)) (get_or one m 0) g in
+    let t : cond (p (tail_of hs m)) g 0 ≡ cond (p (head_of hs k)) g 0 = ap (λ (z : ℕ). cond (p (get_or hs z 0)) g 0) (mate_mate k) in
+    omega arith

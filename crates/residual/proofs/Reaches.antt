@@ -12,9 +12,8 @@ use Rattle.residual.specs.Layers.{Layered}
 use Rattle.residual.specs.Readings.{flows_in, labels_by, answer_in, Solved}
 use Rattle.residual.specs.Paths.{Forward, Backward, Steps, ResidualPath, NearByPaths}
 use Rattle.residual.specs.Plain.{Plain, rack_of, bar_of}
-use Rattle.residual.proofs.Moves.{mate_mate}
 use Rattle.residual.proofs.Pairs.{mate_double, each_arc}
-use Rattle.residual.proofs.Arcs.{length_heads, head_of_lem, tail_of_lem}
+use Rattle.residual.proofs.Arcs.{length_heads, head_of_lem, tail_of_lem, back_head, back_tail}
 use Rattle.residual.proofs.Cuts.{whole, carried_is}
 use Rattle.residual.proofs.Rights.{nth_made}
 use Rattle.residual.proofs.Terminals.{rack}
@@ -45,12 +44,6 @@ module _ (d : Network) (source sink : ℕ) (rs : List ℕ) (total : ℕ) (sent :
   split : (k : ℕ) → k < run_count d → get_or rs (2 * k) 0 + get_or rs (mate_of (2 * k)) 0 ≡ (run d (suc k)).upper
   split k h = let w = whole d source sink rs total sent k h in let c = carried_is d source sink rs total sent k in omega arith
 
-  back_head : (k : ℕ) → k < run_count d → head_of hs (2 * k + 1) ≡ (run d (suc k)).tail
-  back_head k h = ap (λ (x : ℕ). get_or hs x 0) (sym (mate_double k)) ∙ tail_of_lem d.runs k h
-
-  back_tail : (k : ℕ) → k < run_count d → tail_of hs (2 * k + 1) ≡ (run d (suc k)).head
-  back_tail k h = ap (λ (x : ℕ). tail_of hs x) (sym (mate_double k)) ∙ ap (λ (x : ℕ). get_or hs x 0) (mate_mate (2 * k)) ∙ head_of_lem d.runs k h
-
   -- an open arc is a step
   pub step_along : (a : ℕ) → a < length hs → 0 < get_or rs a 0 → Forward d fs (tail_of hs a) (head_of hs a) ⊎ Backward d fs (tail_of hs a) (head_of hs a)
   step_along a h =
@@ -66,8 +59,8 @@ module _ (d : Network) (source sink : ℕ) (rs : List ℕ) (total : ℕ) (sent :
       (λ k q wide. inr record {
         number = suc k;
         within = omega arith;
-        from = sym (back_tail k q);
-        to = sym (back_head k q);
+        from = sym (back_tail d.runs k q);
+        to = sym (back_head d.runs k q);
         more = above (nth fs (suc k) (pos 0)) (get_or rs (mate_of (2 * k)) 0) (flow_at k q) (let e = ap (λ (x : ℕ). get_or rs x 0) (mate_double k) in omega arith);
       })
       a (omega arith)
@@ -96,7 +89,7 @@ module _ (d : Network) (source sink : ℕ) (rs : List ℕ) (total : ℕ) (sent :
             let long = length_heads d.runs in
             let some = above_from (nth fs (suc k) (pos 0)) (get_or rs (mate_of (2 * k)) 0) (flow_at k q) more in
             let e = ap (λ (x : ℕ). get_or rs x 0) (mate_double k) in
-            sym (ap near (back_head k q ∙ to)) ∙ shut (2 * k + 1) (omega arith) (ap near (back_tail k q ∙ from) ∙ n) (omega arith)
+            sym (ap near (back_head d.runs k q ∙ to)) ∙ shut (2 * k + 1) (omega arith) (ap near (back_tail d.runs k q ∙ from) ∙ n) (omega arith)
 
     pub steps_near : (j u v : ℕ) → near u ≡ true → Steps d fs j u v → near v ≡ true
     steps_near zero u v n s = sym (ap near s) ∙ n
@@ -115,7 +108,7 @@ module _ (d : Network) (source sink : ℕ) (rs : List ℕ) (total : ℕ) (sent :
         subst (λ (v : ℕ). Forward d fs (tail_of hs i.arc) v ⊎ Backward d fs (tail_of hs i.arc) v) i.to (step_along i.arc i.within i.wide),
       )
 
-near_label : (b : Bool) → is_near (cond b Near Far) ≡ b
+pub near_label : (b : Bool) → is_near (cond b Near Far) ≡ b
 near_label true = refl
 near_label false = refl
 

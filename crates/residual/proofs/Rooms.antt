@@ -1,6 +1,7 @@
 -- What the arcs of a plain drawing can carry at first.
-use Rattle.std.proofs.Common.{◌≡◌, ℕ, zero, suc, ◌+◌, ◌-◌, ◌*◌, ◌%◌, ◌<◌, ◌≤◌, Bool, cond, length, get_or, ap, ◌∙◌, ⊎_elim, arith}
+use Rattle.std.proofs.Common.{◌≡◌, ℕ, zero, suc, ◌+◌, ◌-◌, ◌*◌, ◌%◌, ◌<◌, ◌≤◌, Bool, cond, List, length, get_or, sym, subst, ap, ◌∙◌, ⊎_elim, arith}
 use Rattle.std.proofs.lemmas.Bool.{cases_eq, cond_both}
+use Rattle.drawing.specs.declared.Run.{Run}
 use Rattle.drawing.specs.Counts.{Within, sum_to}
 use Rattle.drawing.specs.Drawings.{Network, point_count, run_count, run}
 use Rattle.residual.specs.Net.{mate_of, head_of, tail_of, outs, Bounded}
@@ -73,3 +74,15 @@ module _ (d : Network) (p : Plain d) where
       let o = outs_le s (run_count d) (omega arith) in
       let u = uppers in
       omega (arith, l, o, u)
+
+  -- the same of runs and arcs that are the drawing's
+  pub ends_at : (runs : List Run) (n : ℕ) → runs ≡ d.runs → point_count d + 1 ≡ n → Ends runs n
+  ends_at runs n r e = subst (Ends runs) e (subst (λ (xs : List Run). Ends xs (point_count d + 1)) (sym r) ends)
+
+  pub bounded_at : (rs : List ℕ) → rs ≡ room_of d.runs → Bounded rs
+  bounded_at rs r = subst Bounded (sym r) bounded
+
+  pub outs_at : (t : ℕ → Bool) (hs rs : List ℕ) → hs ≡ heads_of d.runs → rs ≡ room_of d.runs → outs t hs rs (length hs) ≤ 1800000000
+  outs_at t hs rs h r =
+      subst (λ (xs : List ℕ). outs t xs rs (length xs) ≤ 1800000000) (sym h)
+      (subst (λ (ys : List ℕ). outs t (heads_of d.runs) ys (length (heads_of d.runs)) ≤ 1800000000) (sym r) (outs_few t))

@@ -1,8 +1,9 @@
 -- What a carried drawing is, and its one rack and one bar.
-use Rattle.std.proofs.Common.{◌≡◌, ℕ, zero, suc, Bool, true, false, not, ◌&&◌, ◌||◌, eqb, ltb, is_some, sym, refl, ap, ◌∙◌, ⊎_elim, arith}
+use Rattle.std.proofs.Common.{◌≡◌, ℕ, zero, suc, Bool, true, false, not, ◌&&◌, ◌||◌, eqb, ltb, is_some, sym, refl, subst, ap, ◌∙◌, ⊎_elim, arith}
 use Rattle.std.proofs.lemmas.Bool.{cases_Bool, cases_eq, cond-true, cond-false, true≢false}
 use Rattle.std.proofs.lemmas.Bool.Decides.{nat_tests}
 use Rattle.drawing.specs.declared.Feature.TheVariants.{LowerBounds, Links, Limits, Terminals}
+use Rattle.drawing.specs.declared.Statements.{Statements}
 use Rattle.drawing.specs.Counts.{Within, sum_to, some_to, count_to, only}
 use Rattle.drawing.specs.Drawings.{Network, point_count, run_count, point, run, is_rack, is_bar, is_link, rack_count, bar_count}
 use Rattle.drawing.specs.Solvers.{Carried}
@@ -29,15 +30,16 @@ none_from (suc n) t h = both (some_to n t) (t (suc n)) (none_from n t (λ k w. h
     both : (a b : Bool) → a ≡ false → b ≡ false → (a || b) ≡ false
     both a b p q = grind arith
 
+-- what counts for nothing fails
+pub none_met : (b : Bool) → only b 1 ≡ 0 → b ≡ false
+none_met true h = absurd (let z : ⊥ = omega arith in z)
+none_met false h = refl
+
 -- no term of a sum that is 0 is above 0
 count_none : (n : ℕ) (t : ℕ → Bool) → count_to n t ≡ 0 → (k : ℕ) → Within n k → t k ≡ false
 count_none zero t e k w = absurd (let z : ⊥ = omega arith in z)
 count_none (suc n) t e k w =
-    ⊎_elim (λ (q : k ≡ suc n). ap t q ∙ off (t (suc n)) (omega arith)) (λ (q : k ≡ suc n → ⊥). count_none n t (omega arith) k (omega arith)) (cases_eq k (suc n))
-  where
-    off : (b : Bool) → only b 1 ≡ 0 → b ≡ false
-    off true h = absurd (let z : ⊥ = omega arith in z)
-    off false h = refl
+    ⊎_elim (λ (q : k ≡ suc n). ap t q ∙ none_met (t (suc n)) (omega arith)) (λ (q : k ≡ suc n → ⊥). count_none n t (omega arith) k (omega arith)) (cases_eq k (suc n))
 
 sum_unmet : (n x : ℕ) (t : ℕ → Bool) → count_to n t ≡ 0 → sum_to n (λ v. only (t v) x) ≡ 0
 sum_unmet n x t e = sum_none n (λ v. only (t v) x) (λ k w. ap (λ b. only b x) (count_none n t e k w))
@@ -127,3 +129,7 @@ module _ (d : Network) (p : Plain d) where
     where
       clash : (m : Mark) → is_rack m ≡ true → is_bar m ≡ true → ⊥
       clash m a b = grind arith
+
+-- a drawing that fits statements which are the plain ones
+pub plain_said : (d : Network) (s : Statements) → s ≡ plain_statements → Carried s d → Plain d
+plain_said d s e c = plain d (subst (λ (t : Statements). Carried t d) e c)

@@ -5,3 +5,4 @@ pub mod Laying
 pub mod Plain
 pub mod Readings
 pub mod Paths
+pub mod Leavers

@@ -1,7 +1,7 @@
 -- A network by its arcs: arc 2k is run k + 1 forward, arc 2k + 1 the same run backward.
 -- By arc, hs has the point that it goes to, ns the next arc of its chain and rs what it can still carry; by point, fs
 -- has where its chain starts. The tail of an arc is the head of its mate.
-use Rattle.std.specs.Prelude.{◌≡◌, ℕ, zero, suc, ◌+◌, ◌-◌, ◌%◌, ◌<◌, ◌≤◌, Bool, cond, List, length, set, ◌==◌, slice_index, slice_set}
+use Rattle.std.specs.Prelude.{◌≡◌, ℕ, zero, suc, ◌+◌, ◌-◌, ◌%◌, ◌<◌, ◌≤◌, Bool, cond, List, [], ◌∷◌, length, set, ◌==◌, slice_index, slice_set}
 
 -- the same run's other arc
 unfoldable pub mate_of : ℕ → ℕ
@@ -17,6 +17,11 @@ tail_of hs a = slice_index hs (mate_of a)
 unfoldable pub before : List ℕ → ℕ → ℕ → ℕ
 before hs v zero = 0
 before hs v (suc k) = cond (tail_of hs k == v) (suc k) (before hs v k)
+
+-- the arcs below k that leave v, by falling numbers
+unfoldable pub leavers : List ℕ → ℕ → ℕ → List ℕ
+leavers hs v zero = []
+leavers hs v (suc k) = cond (tail_of hs k == v) (k ∷ leavers hs v k) (leavers hs v k)
 
 -- the chains of the arcs that leave each of n points
 pub record Chained (hs ns : List ℕ) (n : ℕ) : Type 0 where

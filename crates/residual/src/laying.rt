@@ -3,20 +3,20 @@ ghost use Rattle.std.specs.Prelude.{◌≡◌, ℕ, ◌+◌, ◌*◌, ◌%◌, �
 ghost use Rattle.residual.specs.Net.{Chained, Started};
 ghost use Rattle.residual.specs.Laying.{heads_of, room_of, Ends};
 
-use crate::net::mate;
+use crate::net::{Net, mate};
 use drawing::Run;
 
-// The two arcs of each run.
+// The two arcs of each run. By number: once `chunks_exact_mut` is over, a proof knows how long the slice is, and no item of it.
 fn pair(runs: &[Run], head: &mut [u32], left: &mut [u32])
     requires ends { Ends runs.now 200 }
     requires sizes { (length runs.now ≤ 1024) × ((length head.old ≡ 2 * length runs.now) × (length left.old ≡ 2 * length runs.now)) }
     ensures heads { head.new ≡ heads_of runs.now }
     ensures room { left.new ≡ room_of runs.now }
 {
-    for k in 0..runs.len() {
-        head[2 * k] = runs[k].head as u32;
-        head[2 * k + 1] = runs[k].tail as u32;
-        left[2 * k] = runs[k].upper;
+    for (k, run) in runs.iter().enumerate() {
+        head[2 * k] = run.head as u32;
+        head[2 * k + 1] = run.tail as u32;
+        left[2 * k] = run.upper;
         left[2 * k + 1] = 0;
     }
 }
@@ -39,20 +39,27 @@ fn link(head: &[u32], next: &mut [u32], first: &mut [u32])
     ensures started { Started head.now first.new }
 {
     first.fill(0);
+    // By number, since the point that an arc leaves stands at its mate.
     for a in 0..head.len() {
         thread(next, first, a, head[mate(a)] as usize);
     }
 }
 
-// The arcs of the runs, and their chains.
-pub fn lay(runs: &[Run], head: &mut [u32], next: &mut [u32], first: &mut [u32], left: &mut [u32])
+// The network of the runs, laid in these slices; `left` has what each arc can carry where no run has a flow.
+pub fn lay<'a>(
+    runs: &[Run],
+    head: &'a mut [u32],
+    next: &'a mut [u32],
+    first: &'a mut [u32],
+    left: &mut [u32],
+) -> Net<'a>
     requires ends { Ends runs.now (length first.old) }
     requires sizes { (length runs.now ≤ 1024) × ((length first.old ≤ 129) × ((length head.old ≡ 2 * length runs.now) × ((length next.old ≡ 2 * length runs.now) × (length left.old ≡ 2 * length runs.now)))) }
-    ensures heads { head.new ≡ heads_of runs.now }
+    ensures heads { result.head.now ≡ heads_of runs.now }
+    ensures points { length result.first.now ≡ length first.old }
     ensures room { left.new ≡ room_of runs.now }
-    ensures chained { Chained head.new next.new (length first.old) }
-    ensures started { Started head.new first.new }
 {
     pair(runs, head, left);
     link(head, next, first);
+    Net { head, next, first }
 }

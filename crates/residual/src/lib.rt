@@ -7,7 +7,9 @@
 mod laying;
 mod memory;
 mod net;
+mod saying;
 
 pub use laying::lay;
 pub use memory::Residual;
-pub use net::{Net, carry};
+pub use net::{Leaving, Loaded, Net, carry, mate};
+pub use saying::plain_statements;

@@ -3,7 +3,9 @@ ghost use Rattle.std.specs.Prelude.{◌≡◌, vec_len};
 
 // Room for the arcs and points of the largest drawing that a solver takes, so that no solve allocates. `head`, `next`
 // and `first` are as in `Net`, `left` is what each arc can still carry and `level` what a search gives to each point.
-// A solve uses the front of each, and what they hold between two solves means nothing.
+// A solve uses the front of each, and what they hold between two solves means nothing. They are lists beside one another
+// and not one list of structs: a search and a push read `head` and `left` of other arcs alone, and `head`, `next` and
+// `first` are lent apart from `left` and `level`. 0 stands for none, since the memory is fixed.
 #[derive(Drop)]
 pub struct Residual {
     pub head: Vec<u32>,

@@ -1,19 +1,22 @@
 // The arcs of a network, and the level search.
 ghost use Rattle.std.specs.Prelude.{◌≡◌, ◌+◌, ◌-◌, ◌%◌, ◌<◌, ◌≤◌, false, length, replicate, ◌≢◌, slice_index, slice_set};
-ghost use Rattle.residual.specs.Net.{mate_of, moved, Chained, Started};
+ghost use Rattle.residual.specs.Net.{mate_of, moved, leavers, Chained, Started, Place};
 ghost use Rattle.residual.specs.Search.{spreads, rounds, levels};
 
 // `head[a]` is the point that arc a goes to. The arcs that leave a point v are a chain: `first[v]`, then `next` of
-// each, as an arc's number plus 1, and 0 at the end; it goes by falling numbers.
+// each, as an arc's number plus 1, and 0 at the end; it goes by falling numbers. The memory is fixed, and an `Option` at
+// each place would double it.
 #[derive(Clone, Copy)]
 pub struct Net<'a> {
     pub head: &'a [u32],
     pub next: &'a [u32],
     pub first: &'a [u32],
+    ghost chained: { Chained head.now next.now (length first.now) },
+    ghost started: { Started head.now first.now },
 }
 
 // The same run's other arc.
-pub(crate) fn mate(a: usize) -> usize
+pub fn mate(a: usize) -> usize
     requires { a < 2048 }
     ensures { result ≡ mate_of a }
 {
@@ -48,41 +51,93 @@ fn begin(level: &mut [u32], source: usize)
     level[source] = 1;
 }
 
-impl Net<'_> {
+// The arcs that leave the point v, by falling numbers, from a place in its chain: an arc's number plus 1, or 0 at the end.
+#[derive(Drop)]
+pub struct Leaving<'a> {
+    net: Net<'a>,
+    v: usize,
+    at: usize,
+    ghost place: { Place net.head.now v at },
+}
+
+impl Iterator for Leaving<'_> {
+    type Item = usize;
+
+    ghost use Rattle.std.specs.Iterator.{YieldsFirst, item_count};
+    ghost use Rattle.residual.specs.Leavers.{leavers_left};
+
+    ghost next_gives = { YieldsFirst leavers_left };
+
+    ghost remaining = { item_count leavers_left };
+
+    fn next(&mut self) -> Option<usize> {
+        if self.at == 0 {
+            return None;
+        }
+        let a = self.at - 1;
+        self.at = self.net.next[a] as usize;
+        Some(a)
+    }
+}
+
+impl<'a> Net<'a> {
+    ghost use Rattle.residual.specs.Leavers.{leavers_left};
+
+    // The arcs that leave v.
+    #[tactic(auto, using(crate::proofs::Leavers::leavers_first))]
+    pub fn leaving(self, v: usize) -> Leaving<'a>
+        requires { v < length self.first.now }
+        ensures { leavers_left result ≡ leavers self.entry.head.now v (length self.entry.head.now) }
+    {
+        self.leaving_from(v, self.first[v] as usize)
+    }
+
+    // The arcs that leave v, from a place in its chain.
+    pub fn leaving_from(self, v: usize, at: usize) -> Leaving<'a>
+        requires { Place self.head.now v at }
+        ensures { leavers_left result ≡ leavers self.entry.head.now v at }
+    {
+        Leaving { net: self, v, at }
+    }
+}
+
+// A network, and what each arc can still carry.
+#[derive(Clone, Copy)]
+pub struct Loaded<'a> {
+    pub net: Net<'a>,
+    pub left: &'a [u32],
+    ghost lefts: { length left.now ≡ length net.head.now },
+}
+
+impl Loaded<'_> {
     // Gives level k + 1 to each point without a level that an open arc from v goes to.
-    fn spread(self, left: &[u32], level: &mut [u32], v: usize, k: u32) -> bool
-        requires net { (Chained self.head.now self.next.now (length level.old)) × (Started self.head.now self.first.now) }
-        requires sizes { (length self.first.now ≡ length level.old) × (length left.now ≡ length self.head.now) }
+    fn spread(self, level: &mut [u32], v: usize, k: u32) -> bool
+        requires size { length level.old ≡ length self.net.first.now }
         requires here { (v < length level.old) × (k < 200) }
-        ensures { spreads self.entry.head.now left.now v (k + 1) (length self.entry.head.now) (level.old, false) ≡ (level.new, result) }
+        ensures { spreads self.entry.net.head.now self.entry.left.now v (k + 1) (length self.entry.net.head.now) (level.old, false) ≡ (level.new, result) }
     {
         let mut grew = false;
-        let mut at = self.first[v] as usize;
-        while at > 0 {
-            let a = at - 1;
-            let w = self.head[a] as usize;
-            if left[a] > 0 && level[w] == 0 {
+        for a in self.net.leaving(v) {
+            let w = self.net.head[a] as usize;
+            if self.left[a] > 0 && level[w] == 0 {
                 level[w] = k + 1;
                 grew = true;
             }
-            at = self.next[a] as usize;
         }
         grew
     }
 
     // One round: from each point of level k. Whether a point got a level.
-    fn round(self, left: &[u32], level: &mut [u32], k: u32) -> bool
-        requires net { (Chained self.head.now self.next.now (length level.old)) × (Started self.head.now self.first.now) }
-        requires sizes { (length self.first.now ≡ length level.old) × (length left.now ≡ length self.head.now) }
+    fn round(self, level: &mut [u32], k: u32) -> bool
+        requires size { length level.old ≡ length self.net.first.now }
         requires here { k < 200 }
-        ensures { rounds self.entry.head.now left.now k (length level.old) level.old ≡ (level.new, result) }
+        ensures { rounds self.entry.net.head.now self.entry.left.now k (length level.old) level.old ≡ (level.new, result) }
     {
         let mut grew = false;
+        // By number, since a round writes the levels that it goes over.
         for v in 0..level.len() {
-            if level[v] == k {
-                if self.spread(left, level, v, k) {
-                    grew = true;
-                }
+            if level[v] == k && self.spread(level, v, k) {
+                grew = true;
             }
         }
         grew
@@ -90,15 +145,14 @@ impl Net<'_> {
 
     // The levels from the source along open arcs, up to the sink's or until no round adds a point. The source has
     // level 1, and 0 says that a point has none.
-    pub fn search(self, left: &[u32], level: &mut [u32], source: usize, sink: usize)
-        requires net { (Chained self.head.now self.next.now (length level.old)) × (Started self.head.now self.first.now) }
-        requires sizes { (length self.first.now ≡ length level.old) × (length left.now ≡ length self.head.now) }
+    pub fn search(self, level: &mut [u32], source: usize, sink: usize)
+        requires size { length level.old ≡ length self.net.first.now }
         requires ends { (source < length level.old) × (sink < length level.old) }
-        ensures { level.new ≡ levels self.entry.head.now left.now (length level.old) source sink }
+        ensures { level.new ≡ levels self.entry.net.head.now self.entry.left.now (length level.old) source sink }
     {
         begin(level, source);
         for k in 1..130 {
-            if !self.round(left, level, k) || level[sink] != 0 {
+            if !self.round(level, k) || level[sink] != 0 {
                 break;
             }
         }

@@ -7,7 +7,8 @@ use drawing::Record;
 use ledger::Standing;
 use rig_drawing::RigDrawing;
 
-// The record of the last answer means something only while the rig is planned or short.
+// The record of the last answer means something only while the rig is planned or short; it is there in every standing, since
+// no solve allocates.
 #[derive(Drop)]
 pub struct Rig {
     pub(crate) drawing: RigDrawing,

@@ -1,36 +1,23 @@
 -- Steps of a draft: points, counting roles, and what is told of a step and left by it.
-use Rattle.std.proofs.Common.{◌≡◌, ℕ, zero, suc, ◌+◌, ◌-◌, ◌<◌, ◌≤◌, ltb, List, length, get_or, Some, None, Ok, Err, Option, Result, sym, refl, ap, ◌∙◌, ap₂, add-one, arith}
-use Rattle.std.proofs.lemmas.List.{get_or_past, get_or_read}
+use Rattle.std.proofs.Common.{count_by, ◌≡◌, ℕ, ◌<◌, ◌≤◌, ltb, Some, None, Ok, Err, Option, Result, sym, refl, ap, ◌∙◌}
 use Rattle.std.proofs.lemmas.Bool.{cond_below, cond_above}
-use Rattle.drawing.specs.declared.Point.{Point}
 use Rattle.drawing.specs.declared.Refusal.{Refusal}
 use Rattle.drawing.specs.declared.Refusal.TheVariants.{LineOrder}
-use Rattle.drawing.specs.Counts.{sum_to, count_to, nth}
-use Rattle.drawing.specs.Drawings.{Network, point_count, point, no_point}
+use Rattle.drawing.specs.declared.Mark.{Mark}
+use Rattle.drawing.specs.declared.Mark.TheVariants.{Rack as RackMark, Bar as BarMark}
+use Rattle.drawing.specs.Drawings.{Network, no_point, is_rack, is_bar}
+use Rattle.drawing.proofs.Lists.{count_items}
 use Rattle.rig_drawing.specs.Changes.{check, answered, held_after}
+use Rattle.rig_lines.specs.Codes.{role_mark}
 use Rattle.rig_lines.specs.declared.Role.{Role}
 use Rattle.rig_lines.specs.declared.Role.TheVariants.{Rack, Bar}
 use Rattle.reading.specs.Reading.{Progress, role_count}
-use Rattle.rig_draft.specs.Drafts.{has_role, told, left}
+use Rattle.rig_draft.specs.Drafts.{told, left}
 
--- a point that there is not, and one that there is
-pub none_there : (xs : List Point) (v : ℕ) → (1 ≤ v → length xs < v) → no_point ≡ nth xs v no_point
-none_there xs zero h = refl
-none_there xs (suc k) h = sym (get_or_past xs k no_point (omega (arith, h)))
-
-pub one_there : (xs : List Point) (v : ℕ) (x : Point) → 1 ≤ v → v ≤ length xs → x ≡ get_or xs (v - 1) x → x ≡ nth xs v no_point
-one_there xs zero x h w e = let no_such : ⊥ = omega arith in absurd no_such
-one_there xs (suc k) x h w e =
-    let here : suc k - 1 ≡ k = omega arith in
-    get_or_read xs k x (omega arith) (e ∙ ap (λ i. get_or xs i x) here) no_point
-
--- the next point is counted
-pub count_more : (f : ℕ → ℕ) (i s x : ℕ) → x ≡ f (suc i) → s ≡ sum_to i f → s + x ≡ sum_to (i + 1) f
-count_more f i s x h e = rw (add-one i) (ap₂ ◌+◌ e h)
-
-pub role_counted : (r : Role) (d : Network) → count_to (point_count d) (λ v. has_role r (point d v).mark) ≡ role_count r d
-role_counted Rack d = refl
-role_counted Bar d = refl
+-- the points that have a role are those with its mark
+pub role_counted : (r : Role) (d : Network) (m : Mark) (n : ℕ) → m ≡ role_mark r → (m ≡ RackMark → n ≡ count_by (λ p. is_rack p.mark) d.points) → (m ≡ BarMark → n ≡ count_by (λ p. is_bar p.mark) d.points) → n ≡ role_count r d
+role_counted Rack d m n e racks bars = racks e ∙ sym (count_items no_point d.points (λ p. is_rack p.mark))
+role_counted Bar d m n e racks bars = bars e ∙ sym (count_items no_point d.points (λ p. is_bar p.mark))
 
 -- a call's answer without its value
 abbrev pub bare : {A : Type 0} → Result A Refusal → Result (Unit {0}) Refusal

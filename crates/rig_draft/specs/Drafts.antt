@@ -1,21 +1,13 @@
 -- What a draft stands for, and what a line does to it.
-use Rattle.std.specs.Prelude.{◌≡◌, Bool, Some, None, Ok, Err, Option, Result}
-use Rattle.drawing.specs.declared.Mark.{Mark}
+use Rattle.std.specs.Prelude.{◌≡◌, Some, None, Ok, Err, Option, Result}
 use Rattle.drawing.specs.declared.Refusal.{Refusal}
-use Rattle.drawing.specs.Drawings.{Network, is_rack, is_bar}
+use Rattle.drawing.specs.Drawings.{Network}
 use Rattle.drawing.specs.Records.{network}
 use Rattle.rig_drawing.specs.Changes.{answered, held_after}
 use Rattle.rig_lines.specs.declared.Item.{Item}
-use Rattle.rig_lines.specs.declared.Role.{Role}
-use Rattle.rig_lines.specs.declared.Role.TheVariants.{Rack, Bar}
 use Rattle.reading.specs.Reading.{Progress, unheaded, headed, line_refusal, rig_after}
 use Rattle.rig_draft.specs.declared.Head.{Head}
 use Rattle.rig_draft.specs.declared.Draft.{Draft}
-
--- whether a mark is the role's
-abbrev pub has_role : Role → Mark → Bool
-has_role Rack m = is_rack m
-has_role Bar m = is_bar m
 
 -- What a line after the head tells, and what it makes of the rig: a refusal alters nothing.
 pub record Followed (h : Head) (was : Network) (x : Item) (r : Result (Unit {0}) Refusal) (is : Network) : Type 0 where

@@ -7,8 +7,8 @@ ghost use Rattle.reading.specs.Reading.{is_max, repeats, run_refusal, complete};
 ghost use Rattle.rig_draft.specs.Drafts.{Followed};
 
 use crate::Head;
-use crate::counting::{is_marked, role_count};
-use drawing::{Kind, Mark, Point, Refusal, Run};
+use crate::counting::role_count;
+use drawing::{Mark, Point, Refusal, Run};
 use rig_drawing::RigDrawing;
 use rig_lines::{Form, Item, Role};
 
@@ -16,25 +16,12 @@ use rig_lines::{Form, Item, Role};
 fn point_at(rig: &RigDrawing, v: usize) -> Point
     ensures { result ≡ point (network rig.now.drawing) v }
 {
-    if v < 1 || v > rig.drawing.points.len() {
-        return Point {
+    match rig.point_index(v) {
+        Ok(i) => rig.drawing.points[i],
+        Err(_) => Point {
             mark: Mark::Plain,
             limit: None,
-        };
-    }
-    rig.drawing.points[v - 1]
-}
-
-// The run with the ends and the range.
-fn run_of(kind: Kind, tail: u32, head: u32, lower: u32, upper: u32) -> Run
-    ensures { result ≡ record { kind = kind; tail = tail; head = head; lower = lower; upper = upper } }
-{
-    Run {
-        kind,
-        tail: tail as usize,
-        head: head as usize,
-        lower,
-        upper,
+        },
     }
 }
 
@@ -42,21 +29,16 @@ impl Head {
     fn is_max(self) -> bool
         ensures { result ≡ is_max self.form }
     {
-        match self.form {
-            Form::Rig => false,
-            Form::Max => true,
-        }
+        self.form == Form::Max
     }
 
     // Whether an n line repeats: its point has a role already, or, after `p max`, the role is taken.
     fn is_repeated(self, rig: &RigDrawing, v: usize, role: Role) -> bool
         ensures { result ≡ repeats self.form (network rig.now.drawing) v role }
     {
-        is_marked(point_at(rig, v).mark) || (self.is_max() && role_count(rig, role) > 0)
+        point_at(rig, v).mark != Mark::Plain || (self.is_max() && role_count(rig, role) > 0)
     }
-}
 
-impl Head {
     // An n line.
     fn role(self, rig: &mut RigDrawing, v: u32, role: Role) -> Result<(), Refusal>
         ensures { Followed self (network rig.old.drawing) (Item.Role v role) result (network rig.new.drawing) }
@@ -64,7 +46,7 @@ impl Head {
         if self.is_repeated(rig, v as usize, role) {
             return Err(Refusal::LineOrder);
         }
-        rig.mark(v as usize, role.mark())
+        rig.mark(v as usize, Mark::from(role))
     }
 
     // An l line, which `p max` does not know.
@@ -88,10 +70,8 @@ impl Head {
         if rig.drawing.runs.len() >= self.runs as usize {
             return Err(Refusal::LineOrder);
         }
-        match rig.lay(run) {
-            Ok(_) => Ok(()),
-            Err(refusal) => Err(refusal),
-        }
+        rig.lay(run)?;
+        Ok(())
     }
 
     // An a line of `p rig`, with a lower.
@@ -108,7 +88,7 @@ impl Head {
         if self.is_max() {
             return Err(Refusal::UnknownLine);
         }
-        self.lay(rig, run_of(Kind::Lead, tail, head, lower, upper))
+        self.lay(rig, Run::lead(tail as usize, head as usize, lower, upper))
     }
 
     // An a line of `p max`, whose lower is 0.
@@ -124,7 +104,7 @@ impl Head {
         if !self.is_max() {
             return Err(Refusal::UnknownLine);
         }
-        self.lay(rig, run_of(Kind::Lead, tail, head, 0, upper))
+        self.lay(rig, Run::lead(tail as usize, head as usize, 0, upper))
     }
 
     // An e line, which `p max` does not know.
@@ -134,7 +114,7 @@ impl Head {
         if self.is_max() {
             return Err(Refusal::UnknownLine);
         }
-        self.lay(rig, run_of(Kind::Link, tail, head, 0, upper))
+        self.lay(rig, Run::link(tail as usize, head as usize, upper))
     }
 
     // Whether nothing is missing at the end of the text.
@@ -146,9 +126,7 @@ impl Head {
         }
         !self.is_max() || (role_count(rig, Role::Rack) == 1 && role_count(rig, Role::Bar) == 1)
     }
-}
 
-impl Head {
     // Any line after the head.
     pub(crate) fn follow(self, rig: &mut RigDrawing, item: Item) -> Result<(), Refusal>
         ensures { Followed self (network rig.old.drawing) item result (network rig.new.drawing) }

@@ -16,10 +16,10 @@ impl Draft {
     pub fn new(heap: Global) -> Result<Draft, AllocError>
         ensures { IfOk result (λ d. progress d ≡ unheaded) }
     {
-        match RigDrawing::new(heap, 1) {
-            Ok(rig) => Ok(Draft { rig, head: None }),
-            Err(_) => Err(AllocError),
-        }
+        Ok(Draft {
+            rig: RigDrawing::smallest(heap)?,
+            head: None,
+        })
     }
 
     // The head.
@@ -67,9 +67,6 @@ impl Draft {
     pub fn is_complete(&self) -> bool
         ensures { result ≡ is_some (finished (progress self.now)) }
     {
-        match self.head {
-            None => false,
-            Some(head) => head.is_complete(&self.rig),
-        }
+        self.head.is_some_and(|head| head.is_complete(&self.rig))
     }
 }

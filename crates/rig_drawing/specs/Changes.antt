@@ -72,6 +72,10 @@ lay_refusal d r =
 abbrev pub laid : Network → Run → Network
 laid d r = record { points = d.points; runs = d.runs ++ (r ∷ []) }
 
+-- run k is looked for
+abbrev pub run_refusal : Network → ℕ → Option Refusal
+run_refusal d k = check (is_run d k) NoSuchRun None
+
 -- run k is given another range
 abbrev pub rerate_refusal : Network → ℕ → ℕ → ℕ → Option Refusal
 rerate_refusal d k lower upper = check (is_run d k) NoSuchRun (check (is_range (run d k).kind lower upper) BadRange None)

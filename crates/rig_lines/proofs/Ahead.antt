@@ -1,14 +1,9 @@
--- A scan over the bytes that pass a test: what is left from a place on tells the same as what is left one place later.
-use Rattle.std.proofs.Common.{◌≡◌, ℕ, ◌+◌, ◌<◌, ◌≤◌, Bool, true, false, List, length, get_or, drop, arith}
+-- A scan from a place on, over the bytes that pass a test.
+use Rattle.std.proofs.Common.{◌≡◌, ℕ, ◌+◌, ◌-◌, Bool, List, length, take, drop, take_while, ap, ◌∙◌}
 use Rattle.std.specs.List.{prefix_len}
-use Rattle.std.proofs.lemmas.List.Sums.{prefix_len-drop_yes, prefix_len-drop_no, prefix_len-drop_all}
+use Rattle.std.proofs.lemmas.List.{take_rest}
+use Rattle.std.proofs.lemmas.List.Folds.{length-prefix_len}
 
-module _ (p : ℕ → Bool) (xs : List ℕ) (i : ℕ) where
-  pub one_more : i < length xs → p (get_or xs i 0) ≡ true → i + 1 + prefix_len p (drop (i + 1) xs) ≡ i + prefix_len p (drop i xs)
-  one_more h y = omega (arith, prefix_len-drop_yes p xs i 0 h y)
-
-  pub stops : i < length xs → p (get_or xs i 0) ≡ false → i ≡ i + prefix_len p (drop i xs)
-  stops h n = omega (arith, prefix_len-drop_no p xs i 0 h n)
-
-  pub ends : length xs ≤ i → i ≡ i + prefix_len p (drop i xs)
-  ends h = omega (arith, prefix_len-drop_all p xs i h)
+-- the place after those that pass
+pub scanned_to : (p : ℕ → Bool) (xs : List ℕ) (i : ℕ) {n : ℕ} → n ≡ length (take_while p (take (length xs - i) (drop i xs))) → i + n ≡ i + prefix_len p (drop i xs)
+scanned_to p xs i e = ap (λ k. i + k) (e ∙ length-prefix_len p (take (length xs - i) (drop i xs)) ∙ ap (prefix_len p) (take_rest xs i))

@@ -6,7 +6,7 @@ use crate::{LineKind, Role};
 use drawing::Mark;
 
 impl LineKind {
-    // c comment, p head, n role, l limit, a lead, e link.
+    // c comment, p head, n role, l limit, a lead, e link. A method, since `u8::from` would not say that it is the letter.
     pub fn letter(self) -> u8
         ensures { result ≡ kind_letter self }
     {
@@ -21,12 +21,12 @@ impl LineKind {
     }
 }
 
-impl Role {
-    // The mark of a point that has the role.
-    pub fn mark(self) -> Mark
-        ensures { result ≡ role_mark self }
-    {
-        match self {
+// The mark of a point that has the role.
+impl From<Role> for Mark {
+    ghost from_gives = { λ role mark. mark ≡ role_mark role };
+
+    fn from(role: Role) -> Mark {
+        match role {
             Role::Rack => Mark::Rack,
             Role::Bar => Mark::Bar,
         }

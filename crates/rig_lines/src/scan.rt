@@ -1,9 +1,32 @@
 // Where the fields of a line begin and end.
-ghost use Rattle.std.specs.Prelude.{◌≡◌, ◌+◌, ◌^◌, ◌<◌, ◌≤◌, length};
-ghost use Rattle.rig_lines.specs.Fields.{past, skip, next, part_at, ends_at};
+ghost use Rattle.std.specs.Prelude.{◌≡◌, ◌+◌, ◌^◌, ◌<◌, ◌≤◌, length, take_while};
+ghost use Rattle.rig_lines.specs.Fields.{in_field, is_space, past, skip, next, part_at, ends_at};
 ghost use Rattle.rig_lines.specs.Shapes.{part};
 
 use crate::Field;
+
+// A line: a part of a text, and its place, with every place in it a number.
+#[derive(Clone, Copy)]
+pub(crate) struct Span<'a> {
+    pub(crate) bytes: &'a [u8],
+    pub(crate) at: usize,
+    ghost fits: { at + length bytes.now < 2 ^ 64 },
+}
+
+// How many bytes at the front are no spaces. It and the next are a chain each, and no function of a test that is passed in,
+// whose contract could only speak of calls of the test.
+fn word_length(bytes: &[u8]) -> usize
+    ensures { result ≡ length (take_while in_field bytes.now) }
+{
+    bytes.iter().take_while(|b| **b != b' ').count()
+}
+
+// How many bytes at the front are spaces.
+fn gap_length(bytes: &[u8]) -> usize
+    ensures { result ≡ length (take_while is_space bytes.now) }
+{
+    bytes.iter().take_while(|b| **b == b' ').count()
+}
 
 // The place after the field that begins at `at`.
 fn field_end(line: &[u8], at: usize) -> usize
@@ -11,11 +34,7 @@ fn field_end(line: &[u8], at: usize) -> usize
     ensures value { result ≡ past line.now at }
     ensures within { (at ≤ result) × (result ≤ length line.now) }
 {
-    let mut n = at;
-    while n < line.len() && line[n] != b' ' {
-        n += 1;
-    }
-    n
+    at + word_length(&line[at..])
 }
 
 // The place after the spaces at `at`.
@@ -24,11 +43,7 @@ fn gap_end(line: &[u8], at: usize) -> usize
     ensures value { result ≡ skip line.now at }
     ensures within { result ≤ length line.now }
 {
-    let mut n = at;
-    while n < line.len() && line[n] == b' ' {
-        n += 1;
-    }
-    n
+    at + gap_length(&line[at..])
 }
 
 // The place of the field after the one that begins at `at`.
@@ -49,9 +64,8 @@ pub(crate) fn ends_at(line: &[u8], at: usize) -> bool
 }
 
 // The field of a line that begins at `at`.
-pub(crate) fn field_at<'a>(line: Field<'a>, at: usize) -> Field<'a>
-    requires inside { at ≤ length line.bytes.now }
-    requires room { line.at + length line.bytes.now < 2 ^ 64 }
+pub(crate) fn field_at<'a>(line: Span<'a>, at: usize) -> Field<'a>
+    requires { at ≤ length line.bytes.now }
     ensures { part result ≡ part_at line.entry.at line.entry.bytes.now at }
 {
     let end = field_end(line.bytes, at);

@@ -12,10 +12,13 @@ use crate::{Form, LineKind, Role};
 fn lone_byte(word: &[u8]) -> Option<u8>
     ensures { result ≡ lone word.now }
 {
-    if word.len() == 1 { Some(word[0]) } else { None }
+    match word {
+        [byte] => Some(*byte),
+        _ => None,
+    }
 }
 
-// The kind of line that a letter names.
+// The kind of line that a letter names. An Option, and no TryFrom: what is wrong is told of the whole line.
 fn kind_named(letter: u8) -> Option<LineKind>
     ensures { result ≡ kind_of letter }
 {
@@ -30,7 +33,7 @@ fn kind_named(letter: u8) -> Option<LineKind>
     }
 }
 
-// The role that a letter names.
+// The role that a letter names, an Option for the same reason.
 fn role_named(letter: u8) -> Option<Role>
     ensures { result ≡ role_of letter }
 {
@@ -55,23 +58,14 @@ pub(crate) fn role(word: &[u8]) -> Option<Role>
     role_named(lone_byte(word)?)
 }
 
-// Whether a word is the name.
-fn same(word: &[u8], name: &[u8]) -> bool
-    ensures { result ≡ bytes_eq word.now name.now }
-{
-    word == name
-}
-
 // The form that a field names.
 pub(crate) fn form(word: &[u8]) -> Option<Form>
     ensures { result ≡ form_of word.now }
 {
-    if same(word, b"rig") {
-        Some(Form::Rig)
-    } else if same(word, b"max") {
-        Some(Form::Max)
-    } else {
-        None
+    match word {
+        b"rig" => Some(Form::Rig),
+        b"max" => Some(Form::Max),
+        _ => None,
     }
 }
 

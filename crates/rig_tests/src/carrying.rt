@@ -8,6 +8,7 @@ use lower_bounds::LowerBounds;
 use push_relabel::PushRelabel;
 use rig::Rig;
 use std::alloc::{AllocError, Global};
+use std::process::Abort;
 use std::test::Fail;
 use terminals::Terminals;
 
@@ -126,7 +127,7 @@ solve standard over dinic = ok
 total = 823046
 ";
 
-// What a solve is told: 0 where it is accepted, the feature that 22 names, or 23.
+// What a solve is told, by the numbers that the tables below have: 0 where it is accepted, the feature that 22 names, or 23.
 fn told(r: Result<(), Refusal>) -> u32 {
     match r {
         Ok(()) => 0,
@@ -140,182 +141,91 @@ fn is_told<S: Solver>(rig: &mut Rig, solver: &mut S, expected: u32) -> bool {
     told(rig.solve(solver)) == expected && rig.total() == total
 }
 
-// The number of the first rig of which the solver is told something else, or 0.
-fn first_wrong<S: Solver + Drop>(
+// Of each rig the solver is told what is expected.
+fn try_solver<S: Solver + Drop>(
+    rt: &impl Abort,
     rigs: &mut [Rig],
-    solver: Result<S, AllocError>,
-    expected: &[u32; 14],
-) -> u32 {
-    let Ok(mut solver) = solver else {
-        return u32::MAX;
-    };
-    let mut number: u32 = 0;
+    name: &str,
+    mut solver: S,
+    expected: [u32; 14],
+) {
     for (rig, code) in rigs.iter_mut().zip(expected) {
-        number = number.saturating_add(1);
-        if !is_told(rig, &mut solver, *code) {
-            return number;
-        }
+        assert!(rt; is_told(rig, &mut solver, code), "{name}");
     }
-    0
-}
-
-// The layers over a solver that may not have been made.
-fn terminals<B: Solver + Drop>(
-    heap: Global,
-    below: Result<B, AllocError>,
-) -> Result<Terminals<B>, AllocError> {
-    Terminals::new(heap, below?)
-}
-
-fn links<B: Solver + Drop>(
-    heap: Global,
-    below: Result<B, AllocError>,
-) -> Result<Links<B>, AllocError> {
-    Links::new(heap, below?)
-}
-
-fn limits<B: Solver + Drop>(
-    heap: Global,
-    below: Result<B, AllocError>,
-) -> Result<Limits<B>, AllocError> {
-    Limits::new(heap, below?)
-}
-
-fn lower_bounds<B: Solver + Drop>(
-    heap: Global,
-    below: Result<B, AllocError>,
-) -> Result<LowerBounds<B>, AllocError> {
-    LowerBounds::new(heap, below?)
 }
 
 // Either bottom solver alone, and one layer over it.
-fn try_single(heap: Global, rigs: &mut [Rig]) -> [u32; 6] {
+fn try_single(rt: &impl Abort, heap: Global, rigs: &mut [Rig]) -> Result<(), AllocError> {
     let bare = [0, 1, 2, 3, 4, 1, 2, 1, 0, 0, 0, 0, 0, 0];
     let with_terminals = [0, 1, 2, 3, 0, 1, 2, 1, 0, 0, 0, 0, 0, 0];
     let with_links = [0, 1, 0, 3, 4, 1, 3, 1, 0, 0, 0, 0, 0, 0];
     let with_limits = [0, 1, 2, 0, 4, 1, 2, 1, 0, 0, 0, 0, 0, 0];
     let with_lower_bounds = [0, 0, 2, 3, 4, 2, 2, 0, 0, 0, 0, 0, 0, 0];
-    [
-        first_wrong(rigs, Dinic::new(heap), &bare),
-        first_wrong(rigs, PushRelabel::new(heap), &bare),
-        first_wrong(rigs, terminals(heap, Dinic::new(heap)), &with_terminals),
-        first_wrong(rigs, links(heap, PushRelabel::new(heap)), &with_links),
-        first_wrong(rigs, limits(heap, PushRelabel::new(heap)), &with_limits),
-        first_wrong(
-            rigs,
-            lower_bounds(heap, Dinic::new(heap)),
-            &with_lower_bounds,
-        ),
-    ]
-}
-
-// Two layers over what is below.
-fn try_terminals_links<B: Solver + Drop>(
-    heap: Global,
-    rigs: &mut [Rig],
-    below: Result<B, AllocError>,
-    expected: &[u32; 14],
-) -> u32 {
-    first_wrong(rigs, terminals(heap, links(heap, below)), expected)
-}
-
-fn try_terminals_limits<B: Solver + Drop>(
-    heap: Global,
-    rigs: &mut [Rig],
-    below: Result<B, AllocError>,
-    expected: &[u32; 14],
-) -> u32 {
-    first_wrong(rigs, terminals(heap, limits(heap, below)), expected)
-}
-
-fn try_links_limits<B: Solver + Drop>(
-    heap: Global,
-    rigs: &mut [Rig],
-    below: Result<B, AllocError>,
-    expected: &[u32; 14],
-) -> u32 {
-    first_wrong(rigs, links(heap, limits(heap, below)), expected)
-}
-
-fn try_lower_bounds_twice<B: Solver + Drop>(
-    heap: Global,
-    rigs: &mut [Rig],
-    below: Result<B, AllocError>,
-    expected: &[u32; 14],
-) -> u32 {
-    let solver = lower_bounds(heap, lower_bounds(heap, below));
-    first_wrong(rigs, solver, expected)
+    try_solver(rt, rigs, "Dinic", Dinic::new(heap)?, bare);
+    try_solver(rt, rigs, "push-relabel", PushRelabel::new(heap)?, bare);
+    let solver = Terminals::new(heap, Dinic::new(heap)?)?;
+    try_solver(rt, rigs, "terminals", solver, with_terminals);
+    let solver = Links::new(heap, PushRelabel::new(heap)?)?;
+    try_solver(rt, rigs, "links", solver, with_links);
+    let solver = Limits::new(heap, PushRelabel::new(heap)?)?;
+    try_solver(rt, rigs, "limits", solver, with_limits);
+    let solver = LowerBounds::new(heap, Dinic::new(heap)?)?;
+    try_solver(rt, rigs, "lower bounds", solver, with_lower_bounds);
+    Ok(())
 }
 
 // Stacks that lack one feature: lower bounds, links, limits, terminals. Limits over links takes no links.
-fn try_all_but_one(heap: Global, rigs: &mut [Rig]) -> [u32; 5] {
+fn try_all_but_one(rt: &impl Abort, heap: Global, rigs: &mut [Rig]) -> Result<(), AllocError> {
     let no_lowers = [0, 1, 0, 0, 0, 1, 0, 1, 0, 0, 0, 0, 0, 0];
     let no_links = [0, 0, 2, 0, 0, 2, 2, 0, 0, 0, 0, 0, 0, 0];
     let no_limits = [0, 0, 0, 3, 0, 3, 3, 0, 0, 0, 0, 0, 0, 0];
     let no_terminals = [0, 0, 0, 0, 4, 4, 0, 0, 0, 0, 0, 0, 0, 0];
     let only_limits = [0, 1, 2, 0, 4, 1, 2, 1, 0, 0, 0, 0, 0, 0];
-    let below = limits(heap, Dinic::new(heap));
-    let lowers = try_terminals_links(heap, rigs, below, &no_lowers);
-    let below = lower_bounds(heap, PushRelabel::new(heap));
-    let links_lacking = try_terminals_limits(heap, rigs, below, &no_links);
-    let below = lower_bounds(heap, Dinic::new(heap));
-    let limits_lacking = try_terminals_links(heap, rigs, below, &no_limits);
-    let below = lower_bounds(heap, PushRelabel::new(heap));
-    let terminals_lacking = try_links_limits(heap, rigs, below, &no_terminals);
-    let solver = limits(heap, links(heap, Dinic::new(heap)));
-    let all_lacking = first_wrong(rigs, solver, &only_limits);
-    [
-        lowers,
-        links_lacking,
-        limits_lacking,
-        terminals_lacking,
-        all_lacking,
-    ]
+    let links = Links::new(heap, Limits::new(heap, Dinic::new(heap)?)?)?;
+    let solver = Terminals::new(heap, links)?;
+    try_solver(rt, rigs, "no lower bounds", solver, no_lowers);
+    let limits = Limits::new(heap, LowerBounds::new(heap, PushRelabel::new(heap)?)?)?;
+    let solver = Terminals::new(heap, limits)?;
+    try_solver(rt, rigs, "no links", solver, no_links);
+    let links = Links::new(heap, LowerBounds::new(heap, Dinic::new(heap)?)?)?;
+    let solver = Terminals::new(heap, links)?;
+    try_solver(rt, rigs, "no limits", solver, no_limits);
+    let limits = Limits::new(heap, LowerBounds::new(heap, PushRelabel::new(heap)?)?)?;
+    let solver = Links::new(heap, limits)?;
+    try_solver(rt, rigs, "no terminals", solver, no_terminals);
+    let solver = Limits::new(heap, Links::new(heap, Dinic::new(heap)?)?)?;
+    try_solver(rt, rigs, "limits over links", solver, only_limits);
+    Ok(())
 }
 
-fn thrice<B: Solver + Drop>(
-    heap: Global,
-    below: Result<B, AllocError>,
-) -> Result<Terminals<Terminals<Terminals<B>>>, AllocError> {
-    terminals(heap, terminals(heap, terminals(heap, below)))
+type Thrice<B> = Terminals<Terminals<Terminals<B>>>;
+
+fn thrice<B: Solver + Drop>(heap: Global, below: B) -> Result<Thrice<B>, AllocError> {
+    let terminals = Terminals::new(heap, Terminals::new(heap, below)?)?;
+    Terminals::new(heap, terminals)
 }
 
-fn try_thrice<B: Solver + Drop>(
-    heap: Global,
-    rigs: &mut [Rig],
-    below: Result<B, AllocError>,
-    expected: &[u32; 14],
-) -> u32 {
-    first_wrong(rigs, thrice(heap, below), expected)
-}
-
-// Six layers of terminals over one: 823,045 units.
-fn try_few_units<B: Solver + Drop>(
-    heap: Global,
-    rigs: &mut [Rig],
-    below: Result<B, AllocError>,
-) -> u32 {
-    let few_units = [0, 1, 2, 3, 0, 1, 2, 1, 0, 0, 0, 0, 0, 23];
-    try_thrice(heap, rigs, thrice(heap, below), &few_units)
-}
-
-// At most 32 points, 11 runs, 823,045 units.
-fn try_small(heap: Global, rigs: &mut [Rig]) -> [u32; 3] {
+// At most 32 points, 11 runs, 823,045 units, these by seven layers of terminals.
+fn try_small(rt: &impl Abort, heap: Global, rigs: &mut [Rig]) -> Result<(), AllocError> {
     let few_points = [0, 1, 2, 0, 4, 1, 2, 1, 0, 23, 0, 0, 0, 0];
     let few_runs = [0, 0, 2, 3, 4, 2, 2, 0, 0, 0, 0, 23, 23, 23];
-    let solver = limits(heap, limits(heap, Dinic::new(heap)));
-    let points = first_wrong(rigs, solver, &few_points);
-    let below = lower_bounds(heap, Dinic::new(heap));
-    let runs = try_lower_bounds_twice(heap, rigs, below, &few_runs);
-    let below = terminals(heap, Dinic::new(heap));
-    [points, runs, try_few_units(heap, rigs, below)]
+    let few_units = [0, 1, 2, 3, 0, 1, 2, 1, 0, 0, 0, 0, 0, 23];
+    let solver = Limits::new(heap, Limits::new(heap, Dinic::new(heap)?)?)?;
+    try_solver(rt, rigs, "few points", solver, few_points);
+    let twice = LowerBounds::new(heap, LowerBounds::new(heap, Dinic::new(heap)?)?)?;
+    let solver = LowerBounds::new(heap, twice)?;
+    try_solver(rt, rigs, "few runs", solver, few_runs);
+    let terminals = Terminals::new(heap, Dinic::new(heap)?)?;
+    let solver = thrice(heap, thrice(heap, terminals)?)?;
+    try_solver(rt, rigs, "few units", solver, few_units);
+    Ok(())
 }
 
 #[test]
 fn a_solver_carries_what_it_states(rt: HostRuntime) -> Result<(), Fail> {
     let mut rigs = try_lists(&rt, rt.alloc(), RIGS, "")?;
-    assert_eq!(rt; try_single(rt.alloc(), rigs.as_mut_slice()), [0; 6]);
-    assert_eq!(rt; try_all_but_one(rt.alloc(), rigs.as_mut_slice()), [0; 5]);
-    assert_eq!(rt; try_small(rt.alloc(), rigs.as_mut_slice()), [0; 3]);
+    try_single(&rt, rt.alloc(), rigs.as_mut_slice())?;
+    try_all_but_one(&rt, rt.alloc(), rigs.as_mut_slice())?;
+    try_small(&rt, rt.alloc(), rigs.as_mut_slice())?;
     Ok(())
 }

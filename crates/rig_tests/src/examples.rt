@@ -136,18 +136,26 @@ fn examples_have_their_endings(rt: HostRuntime) -> Result<(), Fail> {
     Ok(())
 }
 
-// The number of the refusal, or 0 where a rig of so many points is made.
-fn refused_by(heap: Global, points: usize) -> u32 {
+// The number of the refusal; None where a rig of so many points is made.
+fn refused_by(heap: Global, points: usize) -> Result<Option<u32>, Fail> {
     match Rig::new(heap, points) {
-        Ok(_) => 0,
-        Err(MakeError::Refused(refusal)) => refusal.number(),
-        Err(MakeError::Memory) => u32::MAX,
+        Ok(_) => Ok(None),
+        Err(MakeError::Refused(refusal)) => Ok(Some(refusal.number())),
+        Err(MakeError::Memory) => Err(Fail::new("no memory")),
     }
 }
 
 #[test]
-fn a_rig_has_1_to_60_points(rt: HostRuntime) {
-    for (points, refusal) in [(0, 1), (1, 0), (60, 0), (61, 1), (usize::MAX, 1)] {
-        assert!(rt; refused_by(rt.alloc(), points) == refusal, "{}", points);
+fn a_rig_has_1_to_60_points(rt: HostRuntime) -> Result<(), Fail> {
+    let cases = [
+        (0, Some(1)),
+        (1, None),
+        (60, None),
+        (61, Some(1)),
+        (usize::MAX, Some(1)),
+    ];
+    for (points, refusal) in cases {
+        assert!(rt; refused_by(rt.alloc(), points)? == refusal, "{}", points);
     }
+    Ok(())
 }

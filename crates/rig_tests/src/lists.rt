@@ -3,7 +3,7 @@
 // `rig POINTS LEADS UPPER` with so many leads from point 1 to point 2. A line is the call, ` = ` and what it is told;
 // a list may have `..` where lines that it shares with others are performed.
 use crate::calls::{BLANK, read_call, read_numbers};
-use crate::replies::told_text;
+use crate::replies::Reply;
 use crate::solvers::{Named, Stack};
 use ledger::{Call, Told};
 use rig::{Rig, play};
@@ -20,12 +20,9 @@ fn is_output_kept<S>(call: &Call<S>, told: &Told) -> bool {
         Told::Sheet(Ok(length)) => *length,
         _ => 0,
     };
-    for (i, byte) in out.iter().enumerate() {
-        if (*byte == BLANK) != (i >= written) {
-            return false;
-        }
-    }
-    true
+    out.iter()
+        .enumerate()
+        .all(|(i, byte)| (*byte == BLANK) == (i >= written))
 }
 
 // The call of a line, and what it is told.
@@ -42,78 +39,57 @@ fn read_calls<S: Named>(heap: Global, lines: &str) -> Option<Vec<Call<S>>> {
     Some(calls)
 }
 
-fn compare<S>(
-    rt: &impl Abort,
+// Where a list is performed and compared, and the title that it is told under.
+#[derive(Clone, Copy)]
+struct List<'a, A> {
+    rt: &'a A,
     heap: Global,
-    call: &Call<S>,
-    told: &Told,
-    title: &str,
-    line: &str,
-) -> Result<(), Fail> {
-    let (_, expected) = cut(line);
-    assert_eq!(rt;
-        told_text(heap, told)?.as_str(),
-        expected,
-        "{title}: {line}"
-    );
-    assert!(rt; is_output_kept(call, told), "{title}: {line}");
-    Ok(())
+    title: &'a str,
 }
 
-fn compare_all<S>(
-    rt: &impl Abort,
-    heap: Global,
-    title: &str,
-    lines: &str,
-    calls: &[Call<S>],
-    told: &[Told],
-) -> Result<(), Fail> {
-    for (line, (call, reply)) in lines.lines().zip(calls.iter().zip(told)) {
-        compare(rt, heap, call, reply, title, line)?;
+impl<A: Abort> List<'_, A> {
+    fn compare<S>(&self, line: &str, call: &Call<S>, told: &Told) -> Result<(), Fail> {
+        let (_, expected) = cut(line);
+        let title = self.title;
+        let reply = format!(in self.heap; "{}", Reply(told))?;
+        assert_eq!(self.rt; reply.as_str(), expected, "{title}: {line}");
+        assert!(self.rt; is_output_kept(call, told), "{title}: {line}");
+        Ok(())
     }
-    assert!(rt; told.len() == calls.len(), "{title}");
-    Ok(())
-}
 
-// Performs the calls of the lines as one list.
-fn play_lines<S: Named>(
-    rt: &impl Abort,
-    heap: Global,
-    rig: &mut Rig,
-    title: &str,
-    lines: &str,
-) -> Result<(), Fail> {
-    let Some(mut calls) = read_calls::<S>(heap, lines) else {
-        return Err(Fail::new("a call that cannot be read"));
-    };
-    let told = play(heap, rig, calls.as_mut_slice())?;
-    compare_all(rt, heap, title, lines, &calls, &told)
+    // Performs the calls of the lines as one list.
+    fn play_lines<S: Named>(&self, rig: &mut Rig, lines: &str) -> Result<(), Fail> {
+        let title = self.title;
+        let Some(mut calls) = read_calls::<S>(self.heap, lines) else {
+            return Err(Fail::new("a call that cannot be read"));
+        };
+        let told = play(self.heap, rig, calls.as_mut_slice())?;
+        assert!(self.rt; told.len() == calls.len(), "{title}");
+        for (line, (call, reply)) in lines.lines().zip(calls.iter().zip(&told)) {
+            self.compare(line, call, reply)?;
+        }
+        Ok(())
+    }
+
+    // Performs a list, with the lines that it shares with others.
+    fn play<S: Named>(&self, rig: &mut Rig, list: &str, common: &str) -> Result<(), Fail> {
+        let (before, after) = list.split_once("..\n").unwrap_or((list, ""));
+        self.play_lines::<S>(rig, before)?;
+        if after.is_empty() {
+            return Ok(());
+        }
+        self.play_lines::<S>(rig, common)?;
+        self.play_lines::<S>(rig, after)
+    }
 }
 
 fn read_rig(heap: Global, text: &str) -> Option<Rig> {
     let [points, leads, upper, _] = read_numbers(text)?;
-    let mut rig = Rig::new(heap, points as usize).ok()?;
-    for _ in 0..leads {
-        rig.lead(1, 2, 0, upper).ok()?;
+    let mut rig = Rig::new(heap, points? as usize).ok()?;
+    for _ in 0..leads.unwrap_or(0) {
+        rig.lead(1, 2, 0, upper?).ok()?;
     }
     Some(rig)
-}
-
-fn play_list<S: Named>(
-    rt: &impl Abort,
-    heap: Global,
-    rig: &mut Rig,
-    title: &str,
-    list: &str,
-    common: &str,
-) -> Result<(), Fail> {
-    let (before, after) = list.split_once("..\n").unwrap_or((list, ""));
-    play_lines::<S>(rt, heap, rig, title, before)?;
-    if after.is_empty() {
-        return Ok(());
-    }
-    play_lines::<S>(rt, heap, rig, title, common)?;
-    play_lines::<S>(rt, heap, rig, title, after)
 }
 
 // The title of a list, its rig, and its calls.
@@ -136,7 +112,7 @@ fn play_all<S: Named>(
         let Some(mut rig) = read_rig(heap, rig) else {
             return Err(Fail::new(title));
         };
-        play_list::<S>(rt, heap, &mut rig, title, calls, common)?;
+        List { rt, heap, title }.play::<S>(&mut rig, calls, common)?;
         rigs.push(rig)?;
     }
     Ok(rigs)

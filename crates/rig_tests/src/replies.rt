@@ -1,41 +1,38 @@
-// What a call was told, as text.
+// What a call was told, as a list writes it.
 use drawing::Refusal;
-use ledger::{Standing, Told};
-use std::alloc::{AllocError, Global};
-
-fn standing_word(standing: Standing) -> &'static str {
-    match standing {
-        Standing::Drawn => "drawn",
-        Standing::Planned => "planned",
-        Standing::Short => "short",
-    }
-}
+use ledger::Told;
+use std::fmt;
 
 // A refusal by its number, and the number of the feature that it names.
-fn refusal_text(heap: Global, refusal: Refusal) -> Result<String, AllocError> {
+fn write_refusal<W: fmt::Write>(f: &mut fmt::Formatter<W>, refusal: Refusal) -> fmt::Result {
     let number = refusal.number();
     match refusal.feature() {
-        Some(feature) => format!(in heap; "refused {number} {feature}"),
-        None => format!(in heap; "refused {number}"),
+        Some(feature) => write!(f, "refused {number} {feature}"),
+        None => write!(f, "refused {number}"),
     }
 }
 
-pub(crate) fn told_text(heap: Global, told: &Told) -> Result<String, AllocError> {
-    match told {
-        Told::Done(Ok(())) => String::from_str(heap, "ok"),
-        Told::Laid(Ok(k)) => format!(in heap; "{k}"),
-        Told::Standing(s) => String::from_str(heap, standing_word(*s)),
-        Told::Total(Ok(total)) => format!(in heap; "{total}"),
-        Told::Worth(Ok(worth)) => format!(in heap; "{worth}"),
-        Told::Label(Ok(label)) => format!(in heap; "{}", label.letter() as char),
-        Told::Use(Ok((flow, spare))) => format!(in heap; "{flow} {spare}"),
-        Told::Sheet(Ok(length)) => format!(in heap; "{length}"),
-        Told::Done(Err(e))
-        | Told::Laid(Err(e))
-        | Told::Total(Err(e))
-        | Told::Worth(Err(e))
-        | Told::Label(Err(e))
-        | Told::Use(Err(e))
-        | Told::Sheet(Err(e)) => refusal_text(heap, *e),
+#[derive(Clone, Copy)]
+pub(crate) struct Reply<'a>(pub(crate) &'a Told);
+
+impl fmt::Display for Reply<'_> {
+    fn fmt<W: fmt::Write>(&self, f: &mut fmt::Formatter<W>) -> fmt::Result {
+        match self.0 {
+            Told::Done(Ok(())) => f.write_str("ok"),
+            Told::Laid(Ok(k)) => write!(f, "{k}"),
+            Told::Standing(standing) => write!(f, "{standing}"),
+            Told::Total(Ok(total)) => write!(f, "{total}"),
+            Told::Worth(Ok(worth)) => write!(f, "{worth}"),
+            Told::Label(Ok(label)) => write!(f, "{}", label.letter() as char),
+            Told::Use(Ok((flow, spare))) => write!(f, "{flow} {spare}"),
+            Told::Sheet(Ok(length)) => write!(f, "{length}"),
+            Told::Done(Err(e))
+            | Told::Laid(Err(e))
+            | Told::Total(Err(e))
+            | Told::Worth(Err(e))
+            | Told::Label(Err(e))
+            | Told::Use(Err(e))
+            | Told::Sheet(Err(e)) => write_refusal(f, *e),
+        }
     }
 }

@@ -56,12 +56,8 @@ fn is_sheet(rig: &Rig, text: &str) -> bool {
 }
 
 fn are_sheets(rigs: &[Rig], texts: [&str; 2]) -> bool {
-    for (rig, text) in rigs.iter().zip(texts) {
-        if !is_sheet(rig, text) {
-            return false;
-        }
-    }
-    rigs.len() == 2
+    let mut pairs = rigs.iter().zip(texts);
+    rigs.len() == 2 && pairs.all(|(rig, text)| is_sheet(rig, text))
 }
 
 #[test]

@@ -32,9 +32,7 @@ impl<B: Named> Named for Either<B, Standard<B>> {
         let Some(bottom) = name.strip_prefix("standard over ") else {
             return Some(Either::First(B::read(heap, name)?));
         };
-        match standard(heap, B::read(heap, bottom)?) {
-            Ok(stack) => Some(Either::Second(stack)),
-            Err(_) => None,
-        }
+        let stack = standard(heap, B::read(heap, bottom)?).ok()?;
+        Some(Either::Second(stack))
     }
 }

@@ -10,15 +10,21 @@ use Rattle.reading.specs.declared.Fault.{Fault}
 use Rattle.reading.specs.Lines.{lines_of, start_of}
 use Rattle.reading.specs.Reading.{Progress, complete, finished, fault, at_end, line_read, onward, read_lines}
 use Rattle.rigtext.specs.States.{State, line_taken, shown_by, moved, lines_left, faulted, end_shown, shown_of, left_of, next_shown, next_state}
-use Rattle.rigtext.specs.Reads.{rest_read}
+use Rattle.rigtext.specs.Reads.{rest_read, Reads, Tells}
+use Rattle.rig_drawing.specs.declared.bounded.RigDrawing.{RigDrawing}
+use Rattle.rigtext.specs.declared.reader.whole.ReadError.{ReadError}
+use Rattle.rigtext.specs.declared.reader.whole.ReadError.TheVariants.{Fault as Faulty, Memory}
+use Rattle.reading.proofs.Texts.{reads_exactly}
 use Rattle.rig_draft.specs.declared.Head.{Head}
 use Rattle.rig_draft.specs.Drafts.{under}
 use Rattle.rigtext.proofs.Starting.{lines_left_lem}
-use Rattle.rigtext.proofs.Stepping.{said}
+use Rattle.rigtext.proofs.Stepping.{said, clash}
 
--- no answer is both
-pub clash : {A E : Type 0} (a : A) (e : E) → Ok a ≡ Err e → ⊥
-clash a e h = let z : ◌≡◌ {A = ℕ} 0 1 = cc in omega arith
+-- what is read of a text, it tells
+pub tells_by : (t : List ℕ) (r : Result RigDrawing ReadError) → Reads t r → Tells t r
+tells_by t (Ok rig) h = (reads_exactly t _).0 h
+tells_by t (Err (Faulty f)) h = λ d w. clash d _ (sym ((reads_exactly t d).1 w) ∙ h)
+tells_by t (Err Memory) h = tt
 
 -- the rest of the text, by the lines that are left
 abbrev rest_of : State → List (List ℕ) → Result Network Fault

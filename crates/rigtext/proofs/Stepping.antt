@@ -1,6 +1,7 @@
 -- What a line does to a reader.
-use Rattle.std.proofs.Common.{◌≡◌, ℕ, ◌+◌, ◌-◌, ◌≤◌, ◌&&◌, leb, List, length, take, drop, Some, None, Ok, Err, Option, Result, sym, ap, ◌∙◌, ap₂, arith}
+use Rattle.std.proofs.Common.{◌≡◌, ℕ, ◌+◌, ◌-◌, ◌≤◌, ◌&&◌, leb, List, length, take, drop, Some, None, Ok, Err, Option, Result, sym, refl, ap, ◌∙◌, ap₂, arith}
 use Rattle.std.specs.List.{prefix_len}
+use Rattle.std.specs.Option.{ok_or}
 use Rattle.std.proofs.lemmas.List.{length-drop}
 use Rattle.std.proofs.lemmas.List.Sums.{prefix_len-le-length}
 use Rattle.std.proofs.lemmas.Bool.{cond-true, and_from, le-leb}
@@ -77,3 +78,16 @@ stays s (Err f) x e q h g = ap (stands s s.line) g
 pub goes : (s : State) (r : Result Progress Refusal) (x y : Option Shape) (q : Progress) → Ok y ≡ shown_by r x → q ≡ left r s.progress → stands s (s.line + 1) q ≡ moved s r
 goes s (Ok p) x y q h g = ap (stands s (s.line + 1)) g
 goes s (Err f) x y q h g = let z : ◌≡◌ {A = ℕ} 0 1 = cc in let no_such : ⊥ = omega arith in absurd no_such
+
+-- no answer is both
+pub clash : {A E : Type 0} (a : A) (e : E) → Ok a ≡ Err e → ⊥
+clash a e h = let z : ◌≡◌ {A = ℕ} 0 1 = cc in omega arith
+
+-- a value that is there, and one that is not
+pub known : {A E : Type 0} {x : A} (o : Option A) (e : E) → Ok x ≡ ok_or o e → o ≡ Some x
+known (Some y) e h = ap Some (let same : y ≡ _ = cc in same)
+known None e h = absurd (clash _ _ h)
+
+pub unknown : {A E : Type 0} {f : E} (o : Option A) (e : E) → Err f ≡ ok_or o e → (o ≡ None) × (f ≡ e)
+unknown (Some y) e h = absurd (clash _ _ (sym h))
+unknown None e h = (refl, cc)

@@ -26,13 +26,12 @@ fn try_case(rt: &impl Abort, heap: Global, case: &str, expected: &str) -> Result
 
 #[test]
 fn texts_have_their_outcomes(rt: HostRuntime) -> Result<(), Fail> {
-    let mut number: u32 = 0;
     for line in CASES.lines() {
         if let Some((text, expected)) = line.split_once(" => ") {
-            number = number.saturating_add(1);
             try_case(&rt, rt.alloc(), text, expected)?;
         }
     }
-    assert_eq!(rt; number, 6);
+    let cases = CASES.lines().filter(|line| line.contains(" => "));
+    assert_eq!(rt; cases.count(), 6);
     Ok(())
 }

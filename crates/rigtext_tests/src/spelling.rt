@@ -1,8 +1,7 @@
 // A text as a case of the table spells it, and a drawing as its outcome does.
 use drawing::{Drawing, Kind, Mark, Point, Run};
 use std::alloc::{AllocError, Global};
-use std::fmt::Write;
-use std::test::Fail;
+use std::fmt;
 
 // The byte that a character stands for.
 fn byte_of(character: u8) -> u8 {
@@ -19,42 +18,43 @@ fn byte_of(character: u8) -> u8 {
 }
 
 pub(crate) fn text_of(heap: Global, spelled: &str) -> Result<Vec<u8>, AllocError> {
-    let mut text = Vec::new(heap);
-    for character in spelled.bytes() {
-        text.push(byte_of(character))?;
-    }
-    Ok(text)
+    spelled.bytes().map(byte_of).collect(heap)
 }
 
-fn spell_point(out: &mut String, point: Point) -> Result<(), AllocError> {
+fn write_point<W: fmt::Write>(f: &mut fmt::Formatter<W>, point: Point) -> fmt::Result {
     let letter = match point.mark {
         Mark::Plain => '.',
         Mark::Rack => 's',
         Mark::Bar => 't',
     };
     match point.limit {
-        None => write!(out, " {letter}"),
-        Some(limit) => write!(out, " {letter}{limit}"),
+        None => write!(f, " {letter}"),
+        Some(limit) => write!(f, " {letter}{limit}"),
     }
 }
 
-fn spell_run(out: &mut String, run: Run) -> Result<(), AllocError> {
+fn write_run<W: fmt::Write>(f: &mut fmt::Formatter<W>, run: Run) -> fmt::Result {
     let sign = match run.kind {
         Kind::Lead => '>',
         Kind::Link => '=',
     };
-    write!(out, " {}{sign}{}", run.tail, run.head)?;
-    write!(out, ":{}-{}", run.lower, run.upper)
+    write!(f, " {}{sign}{}", run.tail, run.head)?;
+    write!(f, ":{}-{}", run.lower, run.upper)
 }
 
 // `ok`, the points and the runs.
-pub(crate) fn spelled(heap: Global, d: &Drawing) -> Result<String, Fail> {
-    let mut out = String::from_str(heap, "ok")?;
-    for point in &d.points {
-        spell_point(&mut out, *point)?;
+#[derive(Clone, Copy)]
+pub(crate) struct Spelled<'a>(pub(crate) &'a Drawing);
+
+impl fmt::Display for Spelled<'_> {
+    fn fmt<W: fmt::Write>(&self, f: &mut fmt::Formatter<W>) -> fmt::Result {
+        f.write_str("ok")?;
+        for point in &self.0.points {
+            write_point(f, *point)?;
+        }
+        for run in &self.0.runs {
+            write_run(f, *run)?;
+        }
+        Ok(())
     }
-    for run in &d.runs {
-        spell_run(&mut out, *run)?;
-    }
-    Ok(out)
 }

@@ -1,23 +1,20 @@
 // What is told of a text, and whether the place is right then.
-use crate::spelling::spelled;
+use crate::spelling::Spelled;
 use reading::Fault;
 use rigtext::{ReadError, Reader, read};
 use std::alloc::Global;
+use std::fmt;
 use std::process::Abort;
 use std::test::Fail;
 
 // Where a line begins, counted by the LFs before it; the text's length where there is no such line.
 fn line_start(text: &[u8], line: u16) -> usize {
-    let mut number: u16 = 1;
-    for (i, byte) in text.iter().enumerate() {
-        if number >= line {
-            return i;
-        }
-        if *byte == b'\n' {
-            number = number.saturating_add(1);
-        }
-    }
-    if line == 0 { 0 } else { text.len() }
+    let Some(skipped) = usize::from(line).checked_sub(2) else {
+        return 0;
+    };
+    let mut ends = text.iter().enumerate().filter(|(_, byte)| **byte == b'\n');
+    ends.nth(skipped)
+        .map_or(text.len(), |(i, _)| i.saturating_add(1))
 }
 
 // Reads line by line: None at the end, or the fault, which is told twice.
@@ -37,11 +34,13 @@ fn by_lines(rt: &impl Abort, heap: Global, text: &[u8], case: &str) -> Result<Op
     Err(Fail::new("the reader goes on"))
 }
 
-// A fault by its number and its line, or an empty text for none.
-fn fault_text(heap: Global, fault: Option<Fault>) -> Result<String, Fail> {
-    match fault {
-        None => Ok(String::new(heap)),
-        Some(fault) => Ok(format!(in heap; "{} {}", fault.refusal.number(), fault.line)?),
+// A fault by its number and its line.
+#[derive(Clone, Copy)]
+struct Faulty(Fault);
+
+impl fmt::Display for Faulty {
+    fn fmt<W: fmt::Write>(&self, f: &mut fmt::Formatter<W>) -> fmt::Result {
+        write!(f, "{} {}", self.0.refusal.number(), self.0.line)
     }
 }
 
@@ -51,11 +50,11 @@ fn whole(rt: &impl Abort, heap: Global, text: &[u8], case: &str) -> Result<Strin
     match read(heap, text, &mut place) {
         Ok(rig) => {
             assert!(rt; place == text.len(), "{case}");
-            spelled(heap, &rig.drawing)
+            Ok(format!(in heap; "{}", Spelled(&rig.drawing))?)
         }
         Err(ReadError::Fault(fault)) => {
             assert!(rt; place == line_start(text, fault.line), "{case}");
-            fault_text(heap, Some(fault))
+            Ok(format!(in heap; "{}", Faulty(fault))?)
         }
         Err(ReadError::Memory) => Err(Fail::new("no memory")),
     }
@@ -71,12 +70,12 @@ pub(crate) fn try_text(
 ) -> Result<(), Fail> {
     let told = whole(rt, heap, text, case)?;
     assert_eq!(rt; told.as_str(), expected, "{case}");
-    let fault = fault_text(heap, by_lines(rt, heap, text, case)?)?;
-    let expected = if expected.starts_with("ok") {
-        ""
-    } else {
-        expected
-    };
-    assert_eq!(rt; fault.as_str(), expected, "{case}");
+    match by_lines(rt, heap, text, case)? {
+        None => assert!(rt; expected.starts_with("ok"), "{case}"),
+        Some(fault) => {
+            let fault = format!(in heap; "{}", Faulty(fault))?;
+            assert_eq!(rt; fault.as_str(), expected, "{case}");
+        }
+    }
     Ok(())
 }

@@ -5,6 +5,6 @@ mod copying;
 mod points;
 pub mod workspace;
 
-pub use copying::{copy_into, file_shortage, lead};
+pub use copying::{copy_into, file_shortage, lead, push_within};
 pub use points::push_points;
 pub use workspace::Workspace;

@@ -1,9 +1,9 @@
 -- The digits of a number, written from the last to the first at the end of eight columns, and the spaces and the minus before them.
-use Rattle.std.proofs.Common.{◌≡◌, ℕ, ◌+◌, ◌-◌, ◌/◌, ◌%◌, ◌^◌, ◌<◌, ◌≤◌, true, List, [], ◌∷◌, ◌++◌, length, get_or, drop, set, replicate, ℤ, pos, negsuc, nat_abs, decimal, sym, ap, ◌∙◌, arith, ltb-true}
+use Rattle.std.proofs.Common.{◌≡◌, ℕ, ◌+◌, ◌-◌, ◌/◌, ◌%◌, ◌^◌, ◌<◌, ◌≤◌, true, List, [], ◌∷◌, ◌++◌, length, drop, set, replicate, ℤ, pos, negsuc, nat_abs, decimal, sym, ap, ◌∙◌, arith, ltb-true}
 use lib.Signed.{lt_z}
 use Rattle.std.specs.Fmt.{signed_decimal}
 use Rattle.std.proofs.lemmas.Fmt.{decimal_step, decimal_digit, decimal_nonempty}
-use Rattle.std.proofs.lemmas.List.{append-nil, append_assoc, drop_all, drop-set, length-append, length-drop, length-replicate, drop_more, set_at, replicate_more}
+use Rattle.std.proofs.lemmas.List.{append-nil, append_assoc, drop_all, drop-set, length-append, length-drop, length-replicate}
 use Rattle.sheet.specs.Columns.{column, Narrow}
 
 -- the digits of n stand behind place i, but for those of rest
@@ -42,12 +42,6 @@ module _ (n rest i : ℕ) (cols : List ℕ) (eight : length cols ≡ 8) (narrow 
 
   pub all_columns : rest < 10 → i + length (decimal n) ≡ 8
   all_columns few = let one : length (decimal rest) ≡ 1 = ap length (decimal_digit rest few) in omega (arith, one, lengths)
-
-pub blank_more : (xs : List ℕ) (k : ℕ) → k < length xs → set (replicate k 32 ++ drop k xs) k 32 ≡ replicate (k + 1) 32 ++ drop (k + 1) xs
-blank_more xs k h =
-    rw (drop_more xs k 0 h)
-    (set_at (replicate k 32) (get_or xs k 0) (drop (k + 1) xs) 32 k (length-replicate k 32)
-    ∙ sym (append_assoc (replicate k 32) (32 ∷ []) (drop (k + 1) xs)) ∙ ap (λ r. r ++ drop (k + 1) xs) (replicate_more k 32))
 
 -- spaces, the minus and the digits are the number's column
 pub below_zero : (z : ℤ) (first : ℕ) (cols after : List ℕ) → Narrow z → lt_z z (pos 0) ≡ true

@@ -10,9 +10,16 @@ use Rattle.drawing.specs.Drawings.{Network, Admissible, point_count, run_count, 
 use Rattle.drawing.specs.Plans.{Plan, Feasible, InRange, flow}
 use Rattle.drawing.specs.Labels.{is_tight, label, adds, deducts, crossing, throttled, forced, worth}
 use Rattle.drawing.proofs.Sums.{earlier, last, only_le}
+use Rattle.drawing.specs.Records.{network}
+use Rattle.rig_drawing.specs.declared.bounded.RigDrawing.{RigDrawing}
 use Rattle.rig_drawing.specs.Bounds.{Bounded}
+use Rattle.rig_drawing.proofs.Bounding.{decides_bounded}
 use Rattle.sheet.specs.Columns.{Small}
 use Rattle.sheet.specs.Sheets.{run_numbers}
+
+-- a rig's drawing keeps a rig's bounds
+pub rig_bounded : (r : RigDrawing) → Bounded (network r.drawing)
+rig_bounded r = (decides_bounded (network r.drawing)).0 r.bounds
 
 -- n numbers that are at most b each
 pub sum_at_most : (n b : ℕ) (f : ℕ → ℕ) → ((k : ℕ) → Within n k → f k ≤ b) → sum_to n f ≤ b * n

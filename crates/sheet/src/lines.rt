@@ -10,6 +10,8 @@ ghost use Rattle.sheet.specs.Sheets.{line_front, number_line, run_numbers, run_l
 use crate::numbers::write_columns;
 use drawing::{Label, Run};
 
+// The output and the place stay two parameters below, since a line's columns are lent as a part of the output itself.
+
 // Writes a line's letter and its numbers.
 fn write_front(out: &mut [u8], a: usize, letter: u8, numbers: &[i32])
     requires room { a + 1 + 8 * length numbers.now ≤ length out.old }
@@ -65,6 +67,7 @@ pub(crate) fn write_runs(out: &mut [u8], a: usize, runs: &[Run], flows: &[i32])
     requires small { (k : ℕ) → Within (length runs.now) k → AllByRecursion Small (run_numbers k (nth runs.now k no_run) (nth flows.now k (pos 0))) }
     ensures { out.new ≡ placed out.old a (text_to (length runs.now) (λ k. run_line k (nth runs.now k no_run) (nth flows.now k (pos 0)))) }
 {
+    // The flow by its index: with `zip` the invariant knows only the list of what was yielded, and no index.
     for (i, run) in runs.iter().enumerate() {
         write_run(out, a + 34 * i, i + 1, *run, flows[i]);
     }

@@ -3,7 +3,8 @@ ghost use Rattle.std.specs.Prelude.{◌≡◌, ◌+◌, ◌-◌, ◌*◌, ◌≤
 ghost use Rattle.std.specs.List.{AllByRecursion};
 ghost use Rattle.sheet.specs.Columns.{column, columns, Narrow, Small, placed};
 
-// Writes the digits of n at the end of the columns and answers the place of the first one.
+// Writes the digits of n at the end of the columns and answers the place of the first one. A loop to the first digit, and no
+// `for` over the columns: how many it fills is what it answers.
 fn write_digits(cols: &mut [u8], n: u32) -> usize
     requires eight { length cols.old ≡ 8 }
     requires narrow { length (decimal n) ≤ 8 }
@@ -26,9 +27,7 @@ fn blank(cols: &mut [u8], n: usize)
     requires { n ≤ length cols.old }
     ensures { cols.new ≡ replicate n 32 ++ drop n cols.old }
 {
-    for k in 0..n {
-        cols[k] = b' ';
-    }
+    cols[..n].fill(b' ');
 }
 
 // Writes a minus right before the first digit.
@@ -55,7 +54,8 @@ fn write_number(cols: &mut [u8], value: i32)
     blank(cols, first);
 }
 
-// Lends the eight columns from place a on to the number writer.
+// Lends the eight columns from place a on to the number writer. The output and the place are two parameters, since the columns
+// are lent as a part of the output itself, `&mut out[a..a + 8]`.
 fn write_at(out: &mut [u8], a: usize, value: i32)
     requires room { a + 8 ≤ length out.old }
     requires small { Small value }

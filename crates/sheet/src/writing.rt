@@ -24,12 +24,13 @@ fn write_total(out: &mut [u8], total: u32)
 }
 
 // The lines of a plan: its total, the runs, the points.
-fn write_plan(out: &mut [u8], d: &Drawing, answer: &Record)
-    requires bounded { Bounded (network d.now) }
-    requires right { Right (network d.now) (planned_in answer.now) }
-    requires room { sheet_length (network d.now) (planned_in answer.now) ≤ length out.old }
-    ensures { out.new ≡ fronted out.old (sheet_text (network d.now) (planned_in answer.now)) }
+#[tactic(auto, using(crate::proofs::Fitting::rig_bounded))]
+fn write_plan(out: &mut [u8], rig: &RigDrawing, answer: &Record)
+    requires right { Right (network rig.now.drawing) (planned_in answer.now) }
+    requires room { sheet_length (network rig.now.drawing) (planned_in answer.now) ≤ length out.old }
+    ensures { out.new ≡ fronted out.old (sheet_text (network rig.now.drawing) (planned_in answer.now)) }
 {
+    let d = &rig.drawing;
     let after_runs = 10 + 34 * d.runs.len();
     write_total(out, answer.total);
     write_runs(out, 10, d.runs.as_slice(), answer.flows.as_slice());
@@ -64,34 +65,34 @@ fn write_worth(out: &mut [u8], value: i32)
 }
 
 // The lines of a shortage: its worth, the points.
-fn write_shortage(out: &mut [u8], d: &Drawing, labels: &[Label])
-    requires bounded { Bounded (network d.now) }
-    requires right { Shortage (network d.now) labels.now }
-    requires room { sheet_length (network d.now) (Short labels.now) ≤ length out.old }
-    ensures { out.new ≡ fronted out.old (sheet_text (network d.now) (Short labels.now)) }
+#[tactic(auto, using(crate::proofs::Fitting::rig_bounded))]
+fn write_shortage(out: &mut [u8], rig: &RigDrawing, labels: &[Label])
+    requires right { Shortage (network rig.now.drawing) labels.now }
+    requires room { sheet_length (network rig.now.drawing) (Short labels.now) ≤ length out.old }
+    ensures { out.new ≡ fronted out.old (sheet_text (network rig.now.drawing) (Short labels.now)) }
 {
-    write_worth(out, short_worth(d, labels));
+    write_worth(out, short_worth(&rig.drawing, labels));
     write_points(out, 10, labels);
 }
 
 // The sheet, where there is room for it.
-fn write_answer(out: &mut [u8], d: &Drawing, answer: &Record)
-    requires bounded { Bounded (network d.now) }
-    requires right { Right (network d.now) (answer_in answer.now) }
-    requires room { sheet_length (network d.now) (answer_in answer.now) ≤ length out.old }
-    ensures { out.new ≡ fronted out.old (sheet_text (network d.now) (answer_in answer.now)) }
+fn write_answer(out: &mut [u8], rig: &RigDrawing, answer: &Record)
+    requires right { Right (network rig.now.drawing) (answer_in answer.now) }
+    requires room { sheet_length (network rig.now.drawing) (answer_in answer.now) ≤ length out.old }
+    ensures { out.new ≡ fronted out.old (sheet_text (network rig.now.drawing) (answer_in answer.now)) }
 {
     match answer.verdict {
-        Verdict::Plan => write_plan(out, d, answer),
-        Verdict::Shortage => write_shortage(out, d, answer.labels.as_slice()),
+        Verdict::Plan => write_plan(out, rig, answer),
+        Verdict::Shortage => write_shortage(out, rig, answer.labels.as_slice()),
     }
 }
 
 // The first line has 10 bytes, each run's 34 and each point's 12.
-fn sheet_length(d: &Drawing, answer: &Record) -> usize
-    requires { Bounded (network d.now) }
-    ensures { result ≡ sheet_length (network d.now) (answer_in answer.now) }
+#[tactic(auto, using(crate::proofs::Fitting::rig_bounded))]
+fn sheet_length(rig: &RigDrawing, answer: &Record) -> usize
+    ensures { result ≡ sheet_length (network rig.now.drawing) (answer_in answer.now) }
 {
+    let d = &rig.drawing;
     match answer.verdict {
         Verdict::Plan => 10 + 34 * d.runs.len() + 12 * d.points.len(),
         Verdict::Shortage => 10 + 12 * d.points.len(),
@@ -105,11 +106,11 @@ pub fn write_sheet(out: &mut [u8], rig: &RigDrawing, answer: &Record) -> Result<
     ensures tells { result ≡ writing_tells out.old (sheet_text (network rig.now.drawing) (answer_in answer.now)) }
     ensures leaves { out.new ≡ writing_leaves out.old (sheet_text (network rig.now.drawing) (answer_in answer.now)) }
 {
-    let length = sheet_length(&rig.drawing, answer);
+    let length = sheet_length(rig, answer);
     if out.len() < length {
         return Err(Refusal::OutputTooShort);
     }
-    write_answer(out, &rig.drawing, answer);
+    write_answer(out, rig, answer);
     Ok(length)
 }
 

@@ -1,214 +1,193 @@
 // One table of drawings for both bottom solvers.
 use checkers::is_right;
 use dinic::Dinic;
-use drawing::{Drawing, Kind, Mark, Point, Record, Refusal, Run, Solver};
+use drawing::{Drawing, Feature, Kind, Mark, Point, Record, Refusal, Run, Solver};
 use push_relabel::PushRelabel;
 use std::alloc::{AllocError, Global};
 use std::process::Abort;
 use std::test::Fail;
 
-// A case is a line: how many points, the rack, the bar (0 for none), the limit of point 1 plus 1 or 0 for none; the
-// refusal's number and the feature's, or 0 0; the total; Dinic's labels and push-relabel's, or - where they are not compared; then groups of runs:
-// how many, by how much both ends move from one to the next, kind (0 lead, 1 link), tail, head, lower, upper.
-const CASES: &str = "\
-2 1 2 0 0 0 7 nf nf 1 0 0 1 2 0 7
-2 1 2 0 0 0 12 nf nf 3 0 0 1 2 0 4
-2 1 2 0 0 0 0 nf nf 1 0 0 1 2 0 0
-2 2 1 0 0 0 0 fn fn 1 0 0 1 2 0 5
-2 1 2 0 0 0 0 nf nf
-4 1 4 0 0 0 0 nnff nnff 1 0 0 1 2 0 5 1 0 0 3 4 0 5
-4 1 4 0 0 0 2 nfff nnnf 1 0 0 1 2 0 1 1 0 0 1 3 0 1 1 0 0 2 3 0 1 1 0 0 2 4 0 1 1 0 0 3 4 0 1
-5 3 5 0 0 0 9 fnnnf nnnnf 1 0 0 3 2 0 9 1 0 0 3 4 0 9 1 0 0 2 5 0 4 1 0 0 4 5 0 5
-128 1 128 0 0 0 3 - - 127 1 0 1 2 0 3
-128 1 128 0 0 0 128 - - 127 1 0 1 2 0 127 126 1 0 1 3 0 1
-2 1 2 0 0 0 1800000000 nf nf 1023 0 0 1 2 0 1757812 1 0 0 1 2 0 1758324
-2 1 2 0 0 0 1800000000 nf nf 1 0 0 1 2 0 1800000000
-2 1 2 0 23 0 0 - - 1 0 0 1 2 0 1800000001
-2 1 2 0 10 0 0 - - 1025 0 0 1 2 0 1
-129 1 2 0 10 0 0 - - 1 0 0 1 2 0 1
-2 1 2 0 10 0 0 - - 1 0 0 1 3 0 1
-2 1 2 0 22 1 0 - - 1 0 0 1 2 1 1
-2 1 2 0 22 2 0 - - 1 0 1 1 2 0 1
-2 1 2 1 22 3 0 - - 1 0 0 1 2 0 1
-2 1 0 0 22 4 0 - - 1 0 0 1 2 0 1
-3 1 3 0 0 0 4 nff nff 1 0 0 1 2 0 4 1 0 0 2 3 0 6
-";
-
-// The next number of a line, and the rest.
-fn number(line: &str) -> Result<(u64, &str), Fail> {
-    let (first, rest) = line.split_once(' ').unwrap_or((line, ""));
-    Ok((first.parse::<u64>()?, rest))
+// So many runs: the first, and from one to the next both ends move by so much.
+#[derive(Clone, Copy)]
+struct Group {
+    count: usize,
+    by: usize,
+    first: Run,
 }
 
-fn small(x: u64) -> Result<usize, Fail> {
-    Ok(usize::try_from(x)?)
+// The labels that each solver finds.
+#[derive(Clone, Copy)]
+struct Letters {
+    dinic: &'static str,
+    push_relabel: &'static str,
 }
 
-fn read_points(heap: Global, line: &str) -> Result<(Vec<Point>, &str), Fail> {
-    let (n, line) = number(line)?;
-    let (rack, line) = number(line)?;
-    let (bar, line) = number(line)?;
-    let (limit, line) = number(line)?;
-    let mut points = Vec::new(heap);
-    for v in 0..n {
-        let mark = if v + 1 == rack {
+// An enum, and no closure that reads the letters: the borrow checker covers no call of a closure with a value that holds a `&'static str`.
+#[derive(Clone, Copy)]
+enum Bottom {
+    Dinic,
+    PushRelabel,
+}
+
+impl Letters {
+    fn of(self, bottom: Bottom) -> &'static str {
+        match bottom {
+            Bottom::Dinic => self.dinic,
+            Bottom::PushRelabel => self.push_relabel,
+        }
+    }
+}
+
+// A plan's total, and its labels where they are compared.
+#[derive(Clone, Copy)]
+struct Want {
+    total: u32,
+    letters: Option<Letters>,
+}
+
+// So many points, of which one is the rack and one the bar, the first with this limit; groups of runs; and what a solver is to say.
+struct Case {
+    points: usize,
+    rack: usize,
+    bar: Option<usize>,
+    limit: Option<u32>,
+    groups: &'static [Group],
+    want: Result<Want, Refusal>,
+}
+
+// A total, and then Dinic's labels and push-relabel's.
+macro_rules! plan {
+    ($total:literal) => {
+        Ok(Want { total: $total, letters: None })
+    };
+    ($total:literal, $dinic:literal, $push_relabel:literal) => {
+        Ok(Want {
+            total: $total,
+            letters: Some(Letters { dinic: $dinic, push_relabel: $push_relabel }),
+        })
+    };
+}
+
+// How many points, the rack, the bar, the limit of the first; groups of runs, with kind, tail, head, lower and upper of the first; and what is told.
+// The run is written out, since a constant calls no function, not even `Run::lead`.
+macro_rules! case {
+    ($points:literal, $rack:literal, $bar:expr, $limit:expr; [$($count:literal by $by:literal $kind:ident $tail:literal $head:literal $lower:literal $upper:literal),*] => $want:expr) => {
+        Case {
+            points: $points,
+            rack: $rack,
+            bar: $bar,
+            limit: $limit,
+            groups: &[$(Group {
+                count: $count,
+                by: $by,
+                first: Run { kind: Kind::$kind, tail: $tail, head: $head, lower: $lower, upper: $upper },
+            }),*],
+            want: $want,
+        }
+    };
+}
+
+const CASES: [Case; 21] = [
+    case!(2, 1, Some(2), None; [1 by 0 Lead 1 2 0 7] => plan!(7, "nf", "nf")),
+    case!(2, 1, Some(2), None; [3 by 0 Lead 1 2 0 4] => plan!(12, "nf", "nf")),
+    case!(2, 1, Some(2), None; [1 by 0 Lead 1 2 0 0] => plan!(0, "nf", "nf")),
+    case!(2, 2, Some(1), None; [1 by 0 Lead 1 2 0 5] => plan!(0, "fn", "fn")),
+    case!(2, 1, Some(2), None; [] => plan!(0, "nf", "nf")),
+    case!(4, 1, Some(4), None; [1 by 0 Lead 1 2 0 5, 1 by 0 Lead 3 4 0 5] => plan!(0, "nnff", "nnff")),
+    case!(4, 1, Some(4), None; [1 by 0 Lead 1 2 0 1, 1 by 0 Lead 1 3 0 1, 1 by 0 Lead 2 3 0 1, 1 by 0 Lead 2 4 0 1, 1 by 0 Lead 3 4 0 1] => plan!(2, "nfff", "nnnf")),
+    case!(5, 3, Some(5), None; [1 by 0 Lead 3 2 0 9, 1 by 0 Lead 3 4 0 9, 1 by 0 Lead 2 5 0 4, 1 by 0 Lead 4 5 0 5] => plan!(9, "fnnnf", "nnnnf")),
+    case!(128, 1, Some(128), None; [127 by 1 Lead 1 2 0 3] => plan!(3)),
+    case!(128, 1, Some(128), None; [127 by 1 Lead 1 2 0 127, 126 by 1 Lead 1 3 0 1] => plan!(128)),
+    case!(2, 1, Some(2), None; [1023 by 0 Lead 1 2 0 1_757_812, 1 by 0 Lead 1 2 0 1_758_324] => plan!(1_800_000_000, "nf", "nf")),
+    case!(2, 1, Some(2), None; [1 by 0 Lead 1 2 0 1_800_000_000] => plan!(1_800_000_000, "nf", "nf")),
+    case!(2, 1, Some(2), None; [1 by 0 Lead 1 2 0 1_800_000_001] => Err(Refusal::TooLarge)),
+    case!(2, 1, Some(2), None; [1025 by 0 Lead 1 2 0 1] => Err(Refusal::BrokenDrawing)),
+    case!(129, 1, Some(2), None; [1 by 0 Lead 1 2 0 1] => Err(Refusal::BrokenDrawing)),
+    case!(2, 1, Some(2), None; [1 by 0 Lead 1 3 0 1] => Err(Refusal::BrokenDrawing)),
+    case!(2, 1, Some(2), None; [1 by 0 Lead 1 2 1 1] => Err(Refusal::Unsupported(Feature::LowerBounds))),
+    case!(2, 1, Some(2), None; [1 by 0 Link 1 2 0 1] => Err(Refusal::Unsupported(Feature::Links))),
+    case!(2, 1, Some(2), Some(0); [1 by 0 Lead 1 2 0 1] => Err(Refusal::Unsupported(Feature::Limits))),
+    case!(2, 1, None, None; [1 by 0 Lead 1 2 0 1] => Err(Refusal::Unsupported(Feature::Terminals))),
+    case!(3, 1, Some(3), None; [1 by 0 Lead 1 2 0 4, 1 by 0 Lead 2 3 0 6] => plan!(4, "nff", "nff")),
+];
+
+impl Group {
+    fn run(&self, k: usize) -> Run {
+        let by = self.by.saturating_mul(k);
+        Run {
+            tail: self.first.tail.saturating_add(by),
+            head: self.first.head.saturating_add(by),
+            ..self.first
+        }
+    }
+}
+
+impl Case {
+    fn point(&self, v: usize) -> Point {
+        let mark = if v == self.rack {
             Mark::Rack
-        } else if v + 1 == bar {
+        } else if Some(v) == self.bar {
             Mark::Bar
         } else {
             Mark::Plain
         };
-        let limit = if v == 0 && limit > 0 {
-            u32::try_from(limit - 1).ok()
-        } else {
-            None
-        };
-        points.push(Point { mark, limit })?;
+        let limit = if v == 1 { self.limit } else { None };
+        Point { mark, limit }
     }
-    Ok((points, line))
-}
 
-fn read_run(line: &str) -> Result<(Run, &str), Fail> {
-    let (kind, line) = number(line)?;
-    let (tail, line) = number(line)?;
-    let (head, line) = number(line)?;
-    let (lower, line) = number(line)?;
-    let (upper, line) = number(line)?;
-    let kind = if kind == 0 { Kind::Lead } else { Kind::Link };
-    let run = Run {
-        kind,
-        tail: small(tail)?,
-        head: small(head)?,
-        lower: u32::try_from(lower)?,
-        upper: u32::try_from(upper)?,
-    };
-    Ok((run, line))
-}
-
-fn add_runs(runs: &mut Vec<Run>, count: u64, by: usize, run: Run) -> Result<(), AllocError> {
-    let mut next = run;
-    for _ in 0..count {
-        runs.push(next)?;
-        next.tail = next.tail.saturating_add(by);
-        next.head = next.head.saturating_add(by);
-    }
-    Ok(())
-}
-
-fn read_runs(heap: Global, text: &str) -> Result<Vec<Run>, Fail> {
-    let mut runs = Vec::new(heap);
-    let mut line = text;
-    for _ in 0..5 {
-        if !line.is_empty() {
-            let (count, rest) = number(line)?;
-            let (by, rest) = number(rest)?;
-            let (run, rest) = read_run(rest)?;
-            add_runs(&mut runs, count, small(by)?, run)?;
-            line = rest;
+    fn draw(&self, heap: Global) -> Result<Drawing, AllocError> {
+        let points = (1..=self.points).map(|v| self.point(v)).collect(heap)?;
+        let mut runs = Vec::new(heap);
+        for g in self.groups {
+            runs.extend((0..g.count).map(|k| g.run(k)))?;
         }
-    }
-    Ok(runs)
-}
-
-// A refusal's number and the number of the feature that it names, each 0 where there is none.
-fn told(r: Result<(), Refusal>) -> (u64, u64) {
-    match r {
-        Ok(()) => (0, 0),
-        Err(e) => (u64::from(e.number()), u64::from(e.feature().unwrap_or(0))),
+        Ok(Drawing { points, runs })
     }
 }
 
 fn are_labels(out: &Record, letters: &str) -> bool {
-    if letters == "-" {
-        return true;
-    }
-    for (l, b) in out.labels.iter().zip(letters.bytes()) {
-        if l.letter() != b {
-            return false;
-        }
-    }
-    out.labels.len() == letters.len()
+    out.labels.iter().map(|l| l.letter()).eq(letters.bytes())
 }
 
-fn solve_case<S: Solver>(
-    rt: &impl Abort,
-    solver: &mut S,
-    d: &Drawing,
-    out: &mut Record,
-    refusal: (u64, u64),
-    total: u32,
-    letters: &str,
-    case: &str,
-) {
-    let held = (out.total, out.labels.len());
-    assert!(rt; told(solver.solve(d, out)) == refusal, "{case}");
-    if refusal == (0, 0) {
-        assert!(rt; out.total == total, "{case}");
-        assert!(rt; are_labels(out, letters), "{case}");
-        assert!(rt; is_right(d, out), "{case}");
-    } else {
-        assert!(rt; (out.total, out.labels.len()) == held, "{case}");
-    }
-}
-
-// `second`: the labels are compared with the second column.
-fn try_case<S: Solver>(
+fn solves_one_after_the_other<S: Solver>(
     rt: &impl Abort,
     heap: Global,
     solver: &mut S,
-    out: &mut Record,
-    case: &str,
-    second: bool,
+    bottom: Bottom,
 ) -> Result<(), Fail> {
-    let (points, line) = read_points(heap, case)?;
-    let (refusal, line) = number(line)?;
-    let (feature, line) = number(line)?;
-    let (total, line) = number(line)?;
-    let (one, line) = line.split_once(' ').unwrap_or((line, ""));
-    let (other, line) = line.split_once(' ').unwrap_or((line, ""));
-    let runs = read_runs(heap, line)?;
-    let d = Drawing { points, runs };
-    let total = u32::try_from(total)?;
-    let letters = if second { other } else { one };
-    solve_case(
-        rt,
-        solver,
-        &d,
-        out,
-        (refusal, feature),
-        total,
-        letters,
-        case,
-    );
-    solve_case(
-        rt,
-        solver,
-        &d,
-        out,
-        (refusal, feature),
-        total,
-        letters,
-        case,
-    );
+    let mut out = Record::new(heap)?;
+    for (k, case) in CASES.iter().enumerate() {
+        let d = case.draw(heap)?;
+        for _ in 0..2 {
+            let held = (out.total, out.labels.len());
+            let told = solver.solve(&d, &mut out);
+            match case.want {
+                Ok(want) => {
+                    assert!(rt; told == Ok(()), "{k}");
+                    assert!(rt; out.total == want.total, "{k}");
+                    if let Some(letters) = want.letters {
+                        assert!(rt; are_labels(&out, letters.of(bottom)), "{k}");
+                    }
+                    assert!(rt; is_right(&d, &out), "{k}");
+                }
+                Err(e) => {
+                    assert!(rt; told == Err(e), "{k}");
+                    assert!(rt; (out.total, out.labels.len()) == held, "{k}");
+                }
+            }
+        }
+    }
     Ok(())
 }
 
 #[test]
 fn dinic_solves_one_after_the_other(rt: HostRuntime) -> Result<(), Fail> {
     let mut solver = Dinic::new(rt.alloc())?;
-    let mut out = Record::new(rt.alloc())?;
-    for line in CASES.lines() {
-        try_case(&rt, rt.alloc(), &mut solver, &mut out, line, false)?;
-    }
-    Ok(())
+    solves_one_after_the_other(&rt, rt.alloc(), &mut solver, Bottom::Dinic)
 }
 
 #[test]
 fn push_relabel_solves_one_after_the_other(rt: HostRuntime) -> Result<(), Fail> {
     let mut solver = PushRelabel::new(rt.alloc())?;
-    let mut out = Record::new(rt.alloc())?;
-    for line in CASES.lines() {
-        try_case(&rt, rt.alloc(), &mut solver, &mut out, line, true)?;
-    }
-    Ok(())
+    solves_one_after_the_other(&rt, rt.alloc(), &mut solver, Bottom::PushRelabel)
 }

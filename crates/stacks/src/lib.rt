@@ -1,15 +1,21 @@
 // The standard stack: terminals over links over limits over lower bounds over a bottom solver.
 #![tactic(auto)]
 
+#[cfg(test)]
+mod both;
+
 ghost use Rattle.std.specs.Prelude.{◌≡◌, IfOk};
+ghost use Rattle.residual.specs.Plain.{plain_statements};
+ghost use Rattle.reductions.specs.Limits.{limits_states};
+ghost use Rattle.reductions.specs.Links.{links_states};
+ghost use Rattle.reductions.specs.LowerBounds.{lowers_states};
+ghost use Rattle.reductions.specs.Terminals.{terminals_states};
 ghost use Rattle.stacks.specs.Standard.{standard_statements};
 
-use dinic::Dinic;
 use drawing::{Solver, Statements};
 use limits::Limits;
 use links::Links;
 use lower_bounds::LowerBounds;
-use push_relabel::PushRelabel;
 use std::alloc::{AllocError, Global};
 use terminals::Terminals;
 
@@ -25,16 +31,10 @@ pub fn standard<B: Solver + Drop>(heap: Global, bottom: B) -> Result<Standard<B>
     Terminals::new(heap, links)
 }
 
-// What the stack over Dinic's method states.
-pub fn statements_over_dinic(stack: &Standard<Dinic>) -> Statements
-    ensures { result ≡ standard_statements }
-{
-    stack.statements()
-}
-
-// The same over push-relabel.
-pub fn statements_over_push_relabel(stack: &Standard<PushRelabel>) -> Statements
-    ensures { result ≡ standard_statements }
+// What the stack states: over a bottom solver of plain drawings the four features, 61 points, 163 runs and 100,000,000 units.
+pub fn statements_over<B: Solver>(stack: &Standard<B>) -> Statements
+    ensures states { result ≡ terminals_states (links_states (limits_states (lowers_states (B.states stack.now.below.below.below.below)))) }
+    ensures over_plain { B.states stack.now.below.below.below.below ≡ plain_statements → result ≡ standard_statements }
 {
     stack.statements()
 }

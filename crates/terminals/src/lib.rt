@@ -1,6 +1,11 @@
 // The terminals layer: a solver over any solver, with one rack and one bar in the network below in place of any number.
 #![tactic(auto)]
 
-mod layer;
+mod network;
+mod reading;
+pub mod reduction;
 
-pub use layer::Terminals;
+use layering::Layer;
+pub use reduction::WithoutTerminals;
+
+pub type Terminals<B> = Layer<WithoutTerminals, B>;

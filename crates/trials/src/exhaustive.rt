@@ -9,7 +9,6 @@ use std::alloc::AllocError;
 pub enum Least {
     Shortage,
     Cut(i64),
-    Nothing,
 }
 
 fn label_of(digit: usize) -> Label {
@@ -30,23 +29,23 @@ fn spell(mut code: usize, n: usize, labels: &mut Vec<Label>) -> Result<(), Alloc
     Ok(())
 }
 
-fn take(least: Least, d: &Drawing, labels: &[Label]) -> Least {
-    if least == Least::Shortage || is_shortage(d, labels) {
-        return Least::Shortage;
+fn take(least: Option<Least>, d: &Drawing, labels: &[Label]) -> Option<Least> {
+    if least == Some(Least::Shortage) || is_shortage(d, labels) {
+        return Some(Least::Shortage);
     }
     if !is_cut(d, labels) {
         return least;
     }
     match (least, worth(d, labels)) {
-        (Least::Nothing, Some(w)) => Least::Cut(w),
-        (Least::Cut(v), Some(w)) => Least::Cut(v.min(w)),
-        _ => least,
+        (_, None) => least,
+        (Some(Least::Cut(v)), Some(w)) => Some(Least::Cut(v.min(w))),
+        (_, Some(w)) => Some(Least::Cut(w)),
     }
 }
 
-// Goes through all labellings of a drawing of at most five points.
-pub fn least_worth(d: &Drawing, labels: &mut Vec<Label>) -> Result<Least, AllocError> {
-    let mut least = Least::Nothing;
+// Goes through all labellings of a drawing of at most five points: None where no labelling says anything.
+pub fn least_worth(d: &Drawing, labels: &mut Vec<Label>) -> Result<Option<Least>, AllocError> {
+    let mut least = None;
     if d.points.len() > 5 {
         return Ok(least);
     }
@@ -58,10 +57,10 @@ pub fn least_worth(d: &Drawing, labels: &mut Vec<Label>) -> Result<Least, AllocE
 }
 
 // Whether a solver's answer is what all labellings say.
-pub fn confirms(least: Least, d: &Drawing, answer: &Record) -> bool {
+pub fn confirms(least: Option<Least>, d: &Drawing, answer: &Record) -> bool {
     match (settle(d, answer), least) {
-        (Some(Finding::Most(total)), Least::Cut(w)) => i64::from(total) == w,
-        (Some(Finding::NoPlan(_)), Least::Shortage) => true,
+        (Some(Finding::Most(total)), Some(Least::Cut(w))) => i64::from(total) == w,
+        (Some(Finding::NoPlan(_)), Some(Least::Shortage)) => true,
         _ => false,
     }
 }

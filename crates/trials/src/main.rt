@@ -12,43 +12,10 @@ use limits::Limits;
 use links::Links;
 use lower_bounds::LowerBounds;
 use push_relabel::PushRelabel;
-use shapes::{Ends, Shape, plain};
+use shapes::{Ends, Features, Shape, plain};
 use stacks::standard;
-use tally::{Place, Tally, try_shape};
+use tally::{Place, try_shape};
 use terminals::Terminals;
-
-// One line of the table.
-fn tell(rt: &HostRuntime, name: &str, t: Tally) -> anyhow::Result<()> {
-    print!(rt;
-        "{name:<12}{:>9}{:>9}{:>9}",
-        t.drawings, t.accepted, t.right
-    )?;
-    println!(rt;
-        "{:>9}{:>9}{:>9}{:>10}",
-        t.agreed, t.within, t.small, t.confirmed
-    )?;
-    Ok(())
-}
-
-fn heading(rt: &HostRuntime, what: &str) -> anyhow::Result<()> {
-    println!(rt; "{what}")?;
-    println!(rt; "shape        drawings accepted    right   agreed   within    small confirmed")?;
-    Ok(())
-}
-
-fn try_all<A: Solver, B: Solver>(
-    rt: &HostRuntime,
-    place: &mut Place,
-    shapes: &[(Shape, u32)],
-    a: &mut A,
-    b: &mut B,
-) -> anyhow::Result<()> {
-    for (shape, trials) in shapes {
-        let tally = try_shape(place, *shape, *trials, a, b)?;
-        tell(rt, shape.name, tally)?;
-    }
-    Ok(())
-}
 
 // Shapes that a bottom solver takes, and how many drawings of each.
 fn plain_shapes() -> [(Shape, u32); 10] {
@@ -69,137 +36,113 @@ fn plain_shapes() -> [(Shape, u32); 10] {
     ]
 }
 
-// Shapes with the named features.
-fn featured(lowers: bool, links: bool, limits: bool, terminals: bool) -> [(Shape, u32); 3] {
+// Shapes with these features.
+fn featured(features: Features) -> [(Shape, u32); 3] {
     let few = plain("few", Ends::Any, (2, 5), (0, 7), 4);
     let sparse = plain("sparse", Ends::Any, (6, 20), (6, 30), 60);
     let ladder = plain("ladder", Ends::Near, (6, 30), (20, 90), 300);
     [
-        (
-            Shape {
-                lowers,
-                links,
-                limits,
-                terminals,
-                ..few
-            },
-            200,
-        ),
-        (
-            Shape {
-                lowers,
-                links,
-                limits,
-                terminals,
-                ..sparse
-            },
-            60,
-        ),
-        (
-            Shape {
-                lowers,
-                links,
-                limits,
-                terminals,
-                ..ladder
-            },
-            40,
-        ),
+        (Shape { features, ..few }, 200),
+        (Shape { features, ..sparse }, 60),
+        (Shape { features, ..ladder }, 40),
     ]
 }
 
-fn try_bottoms(rt: &HostRuntime, place: &mut Place) -> anyhow::Result<()> {
-    let heap = rt.alloc();
-    heading(rt, "Dinic against push-relabel")?;
-    try_all(
-        rt,
-        place,
-        &plain_shapes(),
-        &mut Dinic::new(heap)?,
-        &mut PushRelabel::new(heap)?,
-    )
-}
-
-fn try_standard(rt: &HostRuntime, place: &mut Place) -> anyhow::Result<()> {
-    let heap = rt.alloc();
-    heading(rt, "the standard stack over both, all features")?;
-    let mut a = standard(heap, Dinic::new(heap)?)?;
-    let mut b = standard(heap, PushRelabel::new(heap)?)?;
-    try_all(rt, place, &featured(true, true, true, true), &mut a, &mut b)
-}
-
-fn try_order(rt: &HostRuntime, place: &mut Place) -> anyhow::Result<()> {
-    let heap = rt.alloc();
-    heading(rt, "the standard stack against links over terminals")?;
-    let mut a = standard(heap, Dinic::new(heap)?)?;
-    let limits = Limits::new(heap, LowerBounds::new(heap, PushRelabel::new(heap)?)?)?;
-    let mut b = Links::new(heap, Terminals::new(heap, limits)?)?;
-    try_all(rt, place, &featured(true, true, true, true), &mut a, &mut b)
-}
-
-fn try_terminals(rt: &HostRuntime, place: &mut Place) -> anyhow::Result<()> {
-    let heap = rt.alloc();
-    heading(rt, "terminals alone")?;
-    let mut a = Terminals::new(heap, Dinic::new(heap)?)?;
-    let mut b = Terminals::new(heap, PushRelabel::new(heap)?)?;
-    try_all(
-        rt,
-        place,
-        &featured(false, false, false, true),
-        &mut a,
-        &mut b,
-    )
-}
-
-fn try_links(rt: &HostRuntime, place: &mut Place) -> anyhow::Result<()> {
-    let heap = rt.alloc();
-    heading(rt, "links alone")?;
-    let mut a = Links::new(heap, Dinic::new(heap)?)?;
-    let mut b = Links::new(heap, PushRelabel::new(heap)?)?;
-    try_all(
-        rt,
-        place,
-        &featured(false, true, false, false),
-        &mut a,
-        &mut b,
-    )
-}
-
-fn try_limits(rt: &HostRuntime, place: &mut Place) -> anyhow::Result<()> {
-    let heap = rt.alloc();
-    heading(rt, "limits alone")?;
-    let mut a = Limits::new(heap, Dinic::new(heap)?)?;
-    let mut b = Limits::new(heap, PushRelabel::new(heap)?)?;
-    try_all(
-        rt,
-        place,
-        &featured(false, false, true, false),
-        &mut a,
-        &mut b,
-    )
-}
-
-fn try_lower_bounds(rt: &HostRuntime, place: &mut Place) -> anyhow::Result<()> {
-    let heap = rt.alloc();
-    heading(rt, "lower bounds alone")?;
-    let mut a = LowerBounds::new(heap, Dinic::new(heap)?)?;
-    let mut b = LowerBounds::new(heap, PushRelabel::new(heap)?)?;
-    try_all(
-        rt,
-        place,
-        &featured(true, false, false, false),
-        &mut a,
-        &mut b,
-    )
+// Tries two solvers against each other, on so many drawings of each shape.
+fn try_pair<A: Solver + Drop, B: Solver + Drop>(
+    rt: &HostRuntime,
+    place: &mut Place,
+    what: &str,
+    shapes: &[(Shape, u32)],
+    mut a: A,
+    mut b: B,
+) -> anyhow::Result<()> {
+    println!(rt; "{what}")?;
+    println!(rt; "shape        drawings accepted    right   agreed   within    small confirmed")?;
+    for (shape, trials) in shapes {
+        let tally = try_shape(place, *shape, *trials, &mut a, &mut b)?;
+        println!(rt; "{:<12}{tally}", shape.name)?;
+    }
+    Ok(())
 }
 
 fn main(rt: HostRuntime) -> anyhow::Result<()> {
-    let mut place = Place::new(rt.alloc(), 20261117)?;
-    try_bottoms(&rt, &mut place)?;
-    try_standard(&rt, &mut place)?;
-    try_order(&rt, &mut place)?;
-    try_terminals(&rt, &mut place)?;
-    try_links(&rt, &mut place)?;
-    try_limits(&rt, &mut place)?;
-    try_lower_bounds(&rt, &mut place)
+    let heap = rt.alloc();
+    let mut place = Place::new(heap, 20261117)?;
+    let none = Features::default();
+    let all = Features {
+        lowers: true,
+        links: true,
+        limits: true,
+        terminals: true,
+    };
+    try_pair(
+        &rt,
+        &mut place,
+        "Dinic against push-relabel",
+        &plain_shapes(),
+        Dinic::new(heap)?,
+        PushRelabel::new(heap)?,
+    )?;
+    try_pair(
+        &rt,
+        &mut place,
+        "the standard stack over both, all features",
+        &featured(all),
+        standard(heap, Dinic::new(heap)?)?,
+        standard(heap, PushRelabel::new(heap)?)?,
+    )?;
+    let limits = Limits::new(heap, LowerBounds::new(heap, PushRelabel::new(heap)?)?)?;
+    try_pair(
+        &rt,
+        &mut place,
+        "the standard stack against links over terminals",
+        &featured(all),
+        standard(heap, Dinic::new(heap)?)?,
+        Links::new(heap, Terminals::new(heap, limits)?)?,
+    )?;
+    try_pair(
+        &rt,
+        &mut place,
+        "terminals alone",
+        &featured(Features {
+            terminals: true,
+            ..none
+        }),
+        Terminals::new(heap, Dinic::new(heap)?)?,
+        Terminals::new(heap, PushRelabel::new(heap)?)?,
+    )?;
+    try_pair(
+        &rt,
+        &mut place,
+        "links alone",
+        &featured(Features {
+            links: true,
+            ..none
+        }),
+        Links::new(heap, Dinic::new(heap)?)?,
+        Links::new(heap, PushRelabel::new(heap)?)?,
+    )?;
+    try_pair(
+        &rt,
+        &mut place,
+        "limits alone",
+        &featured(Features {
+            limits: true,
+            ..none
+        }),
+        Limits::new(heap, Dinic::new(heap)?)?,
+        Limits::new(heap, PushRelabel::new(heap)?)?,
+    )?;
+    try_pair(
+        &rt,
+        &mut place,
+        "lower bounds alone",
+        &featured(Features {
+            lowers: true,
+            ..none
+        }),
+        LowerBounds::new(heap, Dinic::new(heap)?)?,
+        LowerBounds::new(heap, PushRelabel::new(heap)?)?,
+    )
 }

@@ -18,7 +18,16 @@ pub enum Ends {
     Hub,
 }
 
-// What drawings of one shape look like. A feature that is on is used now and then.
+// The features that are used now and then.
+#[derive(Clone, Copy, Default)]
+pub struct Features {
+    pub lowers: bool,
+    pub links: bool,
+    pub limits: bool,
+    pub terminals: bool,
+}
+
+// What drawings of one shape look like.
 #[derive(Clone, Copy)]
 pub struct Shape {
     pub name: &'static str,
@@ -26,10 +35,7 @@ pub struct Shape {
     pub points: (u32, u32),
     pub runs: (u32, u32),
     pub most: u32,
-    pub lowers: bool,
-    pub links: bool,
-    pub limits: bool,
-    pub terminals: bool,
+    pub features: Features,
 }
 
 // A shape with one rack, one bar and leads from 0.
@@ -46,10 +52,7 @@ pub fn plain(
         points,
         runs,
         most,
-        lowers: false,
-        links: false,
-        limits: false,
-        terminals: false,
+        features: Features::default(),
     }
 }
 
@@ -73,12 +76,12 @@ fn run_of(shape: Shape, n: u32, random: &mut Random) -> Run {
         head = if tail == 1 { 2 } else { 1 };
     }
     let upper = random.between(0, shape.most);
-    let kind = if shape.links && random.below(3) == 0 {
+    let kind = if shape.features.links && random.below(3) == 0 {
         Kind::Link
     } else {
         Kind::Lead
     };
-    let low = shape.lowers && kind == Kind::Lead && random.below(3) == 0;
+    let low = shape.features.lowers && kind == Kind::Lead && random.below(3) == 0;
     let lower = if low { random.between(0, upper) } else { 0 };
     Run {
         kind,
@@ -91,15 +94,15 @@ fn run_of(shape: Shape, n: u32, random: &mut Random) -> Run {
 
 // The point at index v: with terminals any mark, else a rack first and a bar second.
 fn point_of(shape: Shape, v: u32, random: &mut Random) -> Point {
-    let code = if shape.terminals {
+    let code = if shape.features.terminals {
         random.below(4)
     } else if v < 2 {
         v + 1
     } else {
         0
     };
-    let mark = Mark::from_code(code).unwrap_or(Mark::Plain);
-    let limit = if shape.limits && random.below(4) == 0 {
+    let mark = Mark::try_from(code).unwrap_or(Mark::Plain);
+    let limit = if shape.features.limits && random.below(4) == 0 {
         Some(random.between(0, shape.most))
     } else {
         None

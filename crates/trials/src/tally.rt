@@ -6,11 +6,12 @@ use checkers::is_right;
 use drawing::{Drawing, Label, Record, Solver};
 use duality::agree;
 use std::alloc::{AllocError, Global};
+use std::fmt;
 
 // Of so many drawings, how many both solvers accepted, and of these: to how many both answers are right, how often they
 // agree on verdict and total, how often all that is near by the first is near by the second, how many are small enough
 // to go through all labellings, and how many of these confirm the first answer.
-#[derive(Clone, Copy)]
+#[derive(Clone, Copy, Default)]
 pub struct Tally {
     pub drawings: u32,
     pub accepted: u32,
@@ -19,6 +20,22 @@ pub struct Tally {
     pub within: u32,
     pub small: u32,
     pub confirmed: u32,
+}
+
+// The numbers in a line of the table, beside the shape's name.
+impl fmt::Display for Tally {
+    fn fmt<W: fmt::Write>(&self, f: &mut fmt::Formatter<W>) -> fmt::Result {
+        write!(
+            f,
+            "{:>9}{:>9}{:>9}",
+            self.drawings, self.accepted, self.right
+        )?;
+        write!(
+            f,
+            "{:>9}{:>9}{:>9}{:>10}",
+            self.agreed, self.within, self.small, self.confirmed
+        )
+    }
 }
 
 // What trials write into, again and again.
@@ -47,37 +64,18 @@ impl Place {
 }
 
 fn count(n: u32, b: bool) -> u32 {
-    if b { n.saturating_add(1) } else { n }
+    n.saturating_add(u32::from(b))
 }
 
 // Whether each point that is near in one answer is near in the other.
 fn near_within(inner: &Record, outer: &Record) -> bool {
     let first = inner.labels.as_slice();
     let second = outer.labels.as_slice();
-    if first.len() != second.len() {
-        return false;
-    }
-    for (a, b) in first.iter().zip(second.iter()) {
-        if *a == Label::Near && *b != Label::Near {
-            return false;
-        }
-    }
-    true
+    let mut pairs = first.iter().zip(second);
+    first.len() == second.len() && pairs.all(|(a, b)| *a != Label::Near || *b == Label::Near)
 }
 
 impl Tally {
-    pub fn new() -> Tally {
-        Tally {
-            drawings: 0,
-            accepted: 0,
-            right: 0,
-            agreed: 0,
-            within: 0,
-            small: 0,
-            confirmed: 0,
-        }
-    }
-
     // What both answers to the drawing are worth.
     fn judge(&mut self, place: &mut Place) -> Result<(), AllocError> {
         let d = &place.drawing;
@@ -123,7 +121,7 @@ pub fn try_shape<A: Solver, B: Solver>(
     a: &mut A,
     b: &mut B,
 ) -> Result<Tally, AllocError> {
-    let mut tally = Tally::new();
+    let mut tally = Tally::default();
     for _ in 0..trials {
         tally.compare(place, shape, a, b)?;
     }

@@ -13,13 +13,14 @@ use crate::solver::Dinic;
 use blocking::plan;
 use checkers::admit;
 use drawing::{Drawing, Record, Refusal, Solver, Statements};
-use residual::Residual;
+use residual::{Residual, plain_statements};
 use std::alloc::{AllocError, Global};
 
 impl Dinic {
     // All the memory that it ever uses.
     // near: in its answer to each drawing that it carries, near are just the points to which a residual path leads from
     // the rack under the answer's own flows.
+    #[tactic(auto, using(blocking::proofs::Ending::dinic_near))]
     pub fn new(heap: Global) -> Result<Dinic, AllocError>
         ensures near { (d : Network) → Carried plain_statements d → NearByPaths d (dinic_answer d) }
     {
@@ -48,6 +49,7 @@ impl Dinic {
     }
 }
 
+// An impl for each method: what they share, the statements and the admission, is one function each.
 impl Solver for Dinic {
     ghost states = { λ _. plain_statements };
 
@@ -58,15 +60,7 @@ impl Solver for Dinic {
     ghost right = { λ s d h. dinic_right d h };
 
     fn statements(&self) -> Statements {
-        Statements {
-            lowers: false,
-            links: false,
-            limits: false,
-            terminals: false,
-            points: 128,
-            runs: 1024,
-            units: 1_800_000_000,
-        }
+        plain_statements()
     }
 
     fn solve(&mut self, drawing: &Drawing, out: &mut Record) -> Result<(), Refusal> {

@@ -1,4 +1,6 @@
 // The networks below.
+// The capacity stays, as each writer says: the room of the record or drawing that owns the list is known by it.
+// Few points are asked for where a point's number is added to, so that the sum fits; what a layer carries has no more.
 ghost use Rattle.std.specs.Prelude.{◌≡◌, ◌+◌, ◌-◌, ◌*◌, ◌≤◌, false, ◌++◌, map, length, vec_len, vec_capacity, ◌==◌};
 ghost use Rattle.std.specs.List.{range_with_len};
 ghost use Rattle.drawing.specs.declared.Kind.TheVariants.{Lead};
@@ -10,8 +12,10 @@ ghost use Rattle.reductions.specs.LowerBounds.{old_rack, old_bar, lowers_in, low
 ghost use Rattle.lower_bounds.specs.Parts.{points_only, runs_only, flows_only};
 
 use drawing::{Drawing, Feature, Mark, Point, Record, Run};
-use scratch::{Workspace, copy_into, lead, push_points};
+use scratch::{Workspace, copy_into, lead, push_points, push_within};
 
+// The checks have this, for wider numbers, and forth. Both stand here again: each is one line, and a layer is apart from
+// what the checks keep to themselves.
 pub(super) fn only_if(b: bool, x: u32) -> u32
     ensures { result ≡ only b x }
 {
@@ -24,79 +28,46 @@ pub(super) fn ends(points: &[Point]) -> (usize, usize)
     requires bar { bar_count (points_only points.now) ≡ 1 }
     ensures { result ≡ (old_rack (points_only points.now), old_bar (points_only points.now)) }
 {
-    let mut rack = 0;
-    let mut bar = 0;
-    for i in 0..points.len() {
-        match points[i].mark {
-            Mark::Plain => {}
-            Mark::Rack => rack = i + 1,
-            Mark::Bar => bar = i + 1,
-        }
-    }
-    (rack, bar)
+    let rack = points.iter().position(|p| p.mark == Mark::Rack).unwrap();
+    let bar = points.iter().position(|p| p.mark == Mark::Bar).unwrap();
+    (rack + 1, bar + 1)
 }
 
-// The lower of a lead that enters v, or that leaves v, and the upper of one that leaves v; of any other 0.
+// The lower of a lead that enters the point; of any other 0.
 fn lower_entering(r: Run, v: usize) -> u32
     ensures { result ≡ only (r.head == v) r.lower }
 {
     only_if(r.head == v, r.lower)
 }
 
-fn lower_leaving(r: Run, v: usize) -> u32
-    ensures { result ≡ only (r.tail == v) r.lower }
-{
-    only_if(r.tail == v, r.lower)
-}
-
-fn upper_leaving(r: Run, v: usize) -> u32
-    ensures { result ≡ only (r.tail == v) r.upper }
-{
-    only_if(r.tail == v, r.upper)
-}
-
+// Four sums of one line each, and no function that takes what to add: each says by which end and of which bound it is.
+// Each asks for the bound of what its runs have in all, so that the sum fits; what a carried drawing has is within it.
 fn lowers_entering(runs: &[Run], v: usize) -> u32
     requires { all_lowers (runs_only runs.now) ≤ 600000000 }
     ensures { result ≡ lowers_in (runs_only runs.now) v }
 {
-    let mut sum = 0;
-    for r in runs {
-        sum += lower_entering(*r, v);
-    }
-    sum
+    runs.iter().map(|r| lower_entering(*r, v)).sum()
 }
 
 fn lowers_leaving(runs: &[Run], v: usize) -> u32
     requires { all_lowers (runs_only runs.now) ≤ 600000000 }
     ensures { result ≡ lowers_out (runs_only runs.now) v }
 {
-    let mut sum = 0;
-    for r in runs {
-        sum += lower_leaving(*r, v);
-    }
-    sum
+    runs.iter().map(|r| only_if(r.tail == v, r.lower)).sum()
 }
 
 pub(super) fn all_lowers(runs: &[Run]) -> u32
     requires { all_lowers (runs_only runs.now) ≤ 600000000 }
     ensures { result ≡ all_lowers (runs_only runs.now) }
 {
-    let mut sum = 0;
-    for r in runs {
-        sum += r.lower;
-    }
-    sum
+    runs.iter().map(|r| r.lower).sum()
 }
 
 fn uppers_leaving(runs: &[Run], v: usize) -> u32
     requires { sum_to (length runs.now) (λ k. (nth runs.now k no_run).upper) ≤ 600000000 }
     ensures { result ≡ uppers_out (runs_only runs.now) v }
 {
-    let mut sum = 0;
-    for r in runs {
-        sum += upper_leaving(*r, v);
-    }
-    sum
+    runs.iter().map(|r| only_if(r.tail == v, r.upper)).sum()
 }
 
 // The lead with what may flow above its lower.
@@ -106,19 +77,8 @@ fn slack(r: Run) -> Run
     lead(r.tail, r.head, r.upper.saturating_sub(r.lower))
 }
 
-fn push_slacks(runs: &[Run], out: &mut Vec<Run>)
-    requires { length runs.now ≤ vec_capacity out.old }
-    ensures items { out.new.items ≡ map slack_of runs.now }
-    ensures len { vec_len out.new ≡ length runs.now }
-    ensures capacity { vec_capacity out.new ≡ vec_capacity out.old }
-{
-    out.clear();
-    for r in runs {
-        out.push_reserved(slack(*r));
-    }
-}
-
-// The leads that bring each point the lowers entering it, and take from it the lowers leaving it.
+// The leads that bring each point the lowers entering it, and take from it the lowers leaving it. A loop over
+// the points' numbers, and no chain: each turn writes two leads that only the number tells apart.
 fn push_pairs(drawing: &Drawing, out: &mut Vec<Run>)
     requires few { all_lowers (network drawing.now) ≤ 600000000 }
     requires small { vec_len drawing.now.points ≤ 128 }
@@ -149,7 +109,11 @@ pub(super) fn write_first(drawing: &Drawing, out: &mut Workspace)
     let (rack, bar) = ends(&drawing.points);
     let upper = uppers_leaving(&drawing.runs, rack);
     push_points(&drawing.points, &mut out.drawing.points);
-    push_slacks(&drawing.runs, &mut out.drawing.runs);
+    out.drawing.runs.clear();
+    push_within(
+        drawing.runs.iter().map(|r| slack(*r)),
+        &mut out.drawing.runs,
+    );
     push_pairs(drawing, &mut out.drawing.runs);
     out.drawing.runs.push_reserved(lead(bar, rack, upper));
 }
@@ -158,7 +122,7 @@ pub(super) fn write_first(drawing: &Drawing, out: &mut Workspace)
 pub(super) fn forth(f: i32) -> u32
     ensures { result ≡ carried_forth f }
 {
-    if f > 0 { f.unsigned_abs() } else { 0 }
+    f.max(0).unsigned_abs()
 }
 
 // The lead with what may be added to its lower and the flow above it.
@@ -179,30 +143,6 @@ fn reversed(r: Run, f: i32) -> Run
     lead(r.head, r.tail, forth(f))
 }
 
-fn push_forward(runs: &[Run], flows: &[i32], out: &mut Vec<Run>)
-    requires long { length runs.now ≤ length flows.now }
-    requires room { length runs.now ≤ vec_capacity out.old }
-    ensures items { out.new.items ≡ map (forward_lead (runs_only runs.now) (flows_only flows.now)) (range_with_len 1 (length runs.now)) }
-    ensures len { vec_len out.new ≡ length runs.now }
-    ensures capacity { vec_capacity out.new ≡ vec_capacity out.old }
-{
-    out.clear();
-    for k in 0..runs.len() {
-        out.push_reserved(forward(runs[k], flows[k]));
-    }
-}
-
-fn push_reversed(runs: &[Run], flows: &[i32], out: &mut Vec<Run>)
-    requires long { length runs.now ≤ length flows.now }
-    requires room { vec_len out.old + length runs.now ≤ vec_capacity out.old }
-    ensures items { out.new.items ≡ out.old.items ++ map (reversed_lead (runs_only runs.now) (flows_only flows.now)) (range_with_len 1 (length runs.now)) }
-    ensures capacity { vec_capacity out.new ≡ vec_capacity out.old }
-{
-    for k in 0..runs.len() {
-        out.push_reserved(reversed(runs[k], flows[k]));
-    }
-}
-
 // Writes the second network, by the plan of the first.
 pub(super) fn write_second(drawing: &Drawing, first: &Record, out: &mut Workspace)
     requires long { vec_len drawing.now.runs ≤ vec_len first.now.flows }
@@ -211,6 +151,10 @@ pub(super) fn write_second(drawing: &Drawing, first: &Record, out: &mut Workspac
     ensures { network out.new.drawing ≡ lowers_second (network drawing.now) (plan_in first.now) }
 {
     copy_into(&drawing.points, &mut out.drawing.points);
-    push_forward(&drawing.runs, &first.flows, &mut out.drawing.runs);
-    push_reversed(&drawing.runs, &first.flows, &mut out.drawing.runs);
+    let pairs = drawing.runs.iter().zip(&first.flows);
+    let ahead = pairs.map(|(r, f)| forward(*r, *f));
+    let pairs = drawing.runs.iter().zip(&first.flows);
+    let back = pairs.map(|(r, f)| reversed(*r, *f));
+    out.drawing.runs.clear();
+    push_within(ahead.chain(back), &mut out.drawing.runs);
 }

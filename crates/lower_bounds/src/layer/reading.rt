@@ -1,4 +1,5 @@
 // How the answers below are read.
+// The capacity stays, as each writer says: the room of the record or drawing that owns the list is known by it.
 ghost use Rattle.std.specs.Prelude.{◌≡◌, ℕ, ◌+◌, ◌≤◌, false, ◌&&◌, map, length, pos, ◌-ℤ◌, ◌≤ℤ◌, if◌then◌else◌, vec_len, vec_capacity};
 ghost use Rattle.std.specs.List.{range_with_len};
 ghost use Rattle.drawing.specs.Answers.{Right};
@@ -13,41 +14,20 @@ ghost use Rattle.lower_bounds.specs.Verdicts.{shows_shortage, shortage_shown};
 
 use super::network::{all_lowers, ends, forth, only_if};
 use drawing::{Drawing, Feature, Label, Mark, Point, Record, Verdict};
-use scratch::{copy_into, file_shortage};
-
-fn is_rack(m: Mark) -> bool
-    ensures { result ≡ is_rack m }
-{
-    match m {
-        Mark::Rack => true,
-        Mark::Plain | Mark::Bar => false,
-    }
-}
-
-fn is_bar(m: Mark) -> bool
-    ensures { result ≡ is_bar m }
-{
-    match m {
-        Mark::Bar => true,
-        Mark::Plain | Mark::Rack => false,
-    }
-}
+use scratch::{copy_into, file_shortage, push_within};
 
 // Whether the rack is far beside a near bar.
 fn is_turned(rack: Label, bar: Label) -> bool
     ensures { result ≡ (is_far rack && is_near bar) }
 {
-    match (rack, bar) {
-        (Label::Far, Label::Near) => true,
-        _ => false,
-    }
+    rack == Label::Far && bar == Label::Near
 }
 
 // The rack is read as near where it is turned.
 fn short_label(mark: Mark, label: Label, turned: bool) -> Label
     ensures { result ≡ (if is_rack mark && turned then Label.Near else label) }
 {
-    if is_rack(mark) && turned {
+    if mark == Mark::Rack && turned {
         Label::Near
     } else {
         label
@@ -65,10 +45,9 @@ fn read_labels(points: &[Point], labels: &[Label], out: &mut Vec<Label>)
 {
     let (rack, bar) = ends(points);
     let turned = is_turned(labels[rack - 1], labels[bar - 1]);
+    let marked = points.iter().zip(labels);
     out.clear();
-    for i in 0..points.len() {
-        out.push_reserved(short_label(points[i].mark, labels[i], turned));
-    }
+    push_within(marked.map(|(p, l)| short_label(p.mark, *l, turned)), out);
 }
 
 // The lower, what the first network carries above it, and what the second adds and takes away.
@@ -88,12 +67,12 @@ fn read_ends(points: &[Point], total: u32, supplies: &mut Vec<u32>, deliveries: 
     ensures delivered { deliveries.new.items ≡ map (λ v. only (is_bar (point_at (points_only points.now) v).mark) total) (range_with_len 1 (length points.now)) }
     ensures capacity { (vec_capacity supplies.new ≡ vec_capacity supplies.old) × (vec_capacity deliveries.new ≡ vec_capacity deliveries.old) }
 {
+    let supplied = points.iter().map(|p| only_if(p.mark == Mark::Rack, total));
+    let delivered = points.iter().map(|p| only_if(p.mark == Mark::Bar, total));
     supplies.clear();
     deliveries.clear();
-    for p in points {
-        supplies.push_reserved(only_if(is_rack(p.mark), total));
-        deliveries.push_reserved(only_if(is_bar(p.mark), total));
-    }
+    push_within(supplied, supplies);
+    push_within(delivered, deliveries);
 }
 
 // Whether the answer to the first network shows a shortage: not all lowers can be carried.
@@ -107,7 +86,8 @@ pub(super) fn shows_shortage(drawing: &Drawing, first: &Record) -> bool
     }
 }
 
-// The flow of each run.
+// The flow of each run. A loop and no chain: what raised requires of the flows at a place, a closure cannot ask of the
+// flows that it is given.
 fn read_flows(drawing: &Drawing, first: &Record, second: &Record, out: &mut Vec<i32>)
     requires room { vec_len drawing.now.runs ≤ vec_capacity out.old }
     requires long { (vec_len drawing.now.runs ≤ vec_len first.now.flows) × (vec_len drawing.now.runs + vec_len drawing.now.runs ≤ vec_len second.now.flows) }
@@ -120,8 +100,8 @@ fn read_flows(drawing: &Drawing, first: &Record, second: &Record, out: &mut Vec<
     let flows = second.flows.as_slice();
     let m = runs.len();
     out.clear();
-    for k in 0..m {
-        out.push_reserved(raised(runs[k].lower, found[k], flows[k], flows[m + k]));
+    for (k, r) in runs.iter().enumerate() {
+        out.push_reserved(raised(r.lower, found[k], flows[k], flows[m + k]));
     }
 }
 

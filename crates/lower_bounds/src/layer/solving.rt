@@ -1,6 +1,6 @@
 // The layer as a solver.
-ghost use Rattle.std.specs.Prelude.{◌≡◌, ◌≤◌, IfOk};
-ghost use Rattle.reductions.specs.LowerBounds.{lowers_first, lowers_above, lowers_states, lowers_second};
+ghost use Rattle.std.specs.Prelude.{◌≡◌, ◌-◌, ◌*◌, ◌/◌, ◌≤◌, min, cond, Some, None, IfOk};
+ghost use Rattle.reductions.specs.LowerBounds.{lowers_first, lowers_above, lowers_fit, lowers_states, lowers_second};
 ghost use Rattle.reductions.proofs.Carrying.{lowers_modest, plain_drawing, lowers_first_carried, lowers_second_carried};
 ghost use Rattle.reductions.proofs.LowersSecond.{lowers_right};
 
@@ -29,17 +29,14 @@ impl<B: Solver + Drop> LowerBounds<B> {
     }
 }
 
-// The most points, runs and units, by those below: all 0 where a difference would be below 0.
-fn numbers(b: Statements) -> (usize, usize, u64)
-    requires { b.points ≤ 128 }
-    ensures { result ≡ ((lowers_states b).points, (lowers_states b).runs, (lowers_states b).units) }
+// The most points, runs and units, by those below; None where a difference would be below 0.
+fn numbers(below: Statements) -> Option<(usize, usize, u64)>
+    requires { below.points ≤ 128 }
+    ensures { result ≡ cond (lowers_fit below) (Some (below.points - 2, min (below.runs / 2) (below.runs - 2 * (below.points - 2) - 1), below.units / 3)) None }
 {
-    if b.points < 2 || b.runs < 2 * (b.points - 2) + 1 {
-        return (0, 0, 0);
-    }
-    let own = b.points - 2;
-    let runs = (b.runs / 2).min(b.runs - 2 * own - 1);
-    (own, runs, b.units / 3)
+    let points = below.points.checked_sub(2)?;
+    let runs = below.runs.checked_sub(2 * points + 1)?;
+    Some((points, runs.min(below.runs / 2), below.units / 3))
 }
 
 impl<B: Solver> Solver for LowerBounds<B> {
@@ -59,7 +56,7 @@ impl<B: Solver> Solver for LowerBounds<B> {
         (λ p ok. met.right x (lowers_second d p) (lowers_second_carried b d (met.modest x) h p ok)) };
 
     fn statements(&self) -> Statements {
-        let (points, runs, units) = numbers(self.below.statements());
+        let (points, runs, units) = numbers(self.below.statements()).unwrap_or_default();
         Statements {
             lowers: true,
             links: false,

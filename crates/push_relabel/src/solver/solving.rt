@@ -17,7 +17,7 @@ use crate::solver::PushRelabel;
 use checkers::admit;
 use drawing::{Drawing, Record, Refusal, Solver, Statements};
 use preflow::plan;
-use residual::Residual;
+use residual::{Residual, plain_statements};
 use std::alloc::{AllocError, Global};
 use std::collections::VecDeque;
 
@@ -28,6 +28,7 @@ impl PushRelabel {
     // fifo: the queue holds each active point once, and each turn serves the one that joined it first.
     // opened: before the first turn the queue holds the points that the rack's pushes made active, in that order.
     // rising: the rack starts at its height and the others at 0, no turn lowers a point, and the turns suffice.
+    #[tactic(auto, using(preflow::proofs::Ending::relabel_near, preflow::proofs::Ending::relabel_fifo, preflow::proofs::Ending::relabel_opened))]
     pub fn new(heap: Global) -> Result<PushRelabel, AllocError>
         ensures near { (d : Network) → Carried plain_statements d → NearUnlessPaths d (relabel_answer d) }
         ensures fifo { (d : Network) → Carried plain_statements d → Fifo (rack_of d) (bar_of d) (state_of d) }
@@ -71,6 +72,7 @@ impl PushRelabel {
     }
 }
 
+// An impl for each method: what they share, the statements and the admission, is one function each.
 impl Solver for PushRelabel {
     ghost states = { λ _. plain_statements };
 
@@ -81,15 +83,7 @@ impl Solver for PushRelabel {
     ghost right = { λ s d h. relabel_right d h };
 
     fn statements(&self) -> Statements {
-        Statements {
-            lowers: false,
-            links: false,
-            limits: false,
-            terminals: false,
-            points: 128,
-            runs: 1024,
-            units: 1_800_000_000,
-        }
+        plain_statements()
     }
 
     fn solve(&mut self, drawing: &Drawing, out: &mut Record) -> Result<(), Refusal> {

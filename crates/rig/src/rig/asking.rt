@@ -38,13 +38,10 @@ impl Rig {
     pub fn label(&self, v: usize) -> Result<Label, Refusal>
         ensures { reply_of labelled result ≡ says (ledger_of self.now) (question (label_asked v)) }
     {
-        if v < 1 || v > self.drawing.drawing.points.len() {
-            return Err(Refusal::NoSuchPoint);
-        }
+        let i = self.drawing.point_index(v)?;
         match self.standing {
             Standing::Drawn => Err(Refusal::NotSolved),
-            Standing::Planned => Ok(self.answer.labels[v - 1]),
-            Standing::Short => Ok(self.answer.labels[v - 1]),
+            Standing::Planned | Standing::Short => Ok(self.answer.labels[i]),
         }
     }
 
@@ -52,15 +49,13 @@ impl Rig {
     pub fn usage(&self, k: usize) -> Result<(i32, u32), Refusal>
         ensures { reply_of (λ u. carries u.0 u.1) result ≡ says (ledger_of self.now) (question (use_asked k)) }
     {
-        if k < 1 || k > self.drawing.drawing.runs.len() {
-            return Err(Refusal::NoSuchRun);
-        }
+        let i = self.drawing.run_index(k)?;
         match self.standing {
             Standing::Drawn => Err(Refusal::NotSolved),
             Standing::Short => Err(Refusal::OtherVerdict),
             Standing::Planned => {
-                let flow = self.answer.flows[k - 1];
-                let upper = self.drawing.drawing.runs[k - 1].upper;
+                let flow = self.answer.flows[i];
+                let upper = self.drawing.drawing.runs[i].upper;
                 Ok((flow, upper.saturating_sub(flow.unsigned_abs())))
             }
         }

@@ -6,7 +6,7 @@ ghost use Rattle.ledger.specs.Ledgers.{change, lay as laying, says, next, reply_
 ghost use Rattle.rig.specs.Rigs.{ledger_of};
 
 use crate::Rig;
-use drawing::{Kind, Refusal, Run};
+use drawing::{Refusal, Run};
 use ledger::Standing;
 
 impl Rig {
@@ -21,13 +21,7 @@ impl Rig {
         ensures told { reply_of numbered result ≡ says (ledger_of self.old) (change (laying (run_of LeadKind tail head lower upper))) }
         ensures held { ledger_of self.new ≡ next (ledger_of self.old) (change (laying (run_of LeadKind tail head lower upper))) }
     {
-        self.lay(Run {
-            kind: Kind::Lead,
-            tail,
-            head,
-            lower,
-            upper,
-        })
+        self.lay(Run::lead(tail, head, lower, upper))
     }
 
     // Lays a link as the next run, and answers its number.
@@ -35,25 +29,15 @@ impl Rig {
         ensures told { reply_of numbered result ≡ says (ledger_of self.old) (change (laying (run_of LinkKind first second 0 upper))) }
         ensures held { ledger_of self.new ≡ next (ledger_of self.old) (change (laying (run_of LinkKind first second 0 upper))) }
     {
-        self.lay(Run {
-            kind: Kind::Link,
-            tail: first,
-            head: second,
-            lower: 0,
-            upper,
-        })
+        self.lay(Run::link(first, second, upper))
     }
 
     fn lay(&mut self, run: Run) -> Result<usize, Refusal>
         ensures told { reply_of numbered result ≡ says (ledger_of self.old) (change (laying run)) }
         ensures held { ledger_of self.new ≡ next (ledger_of self.old) (change (laying run)) }
     {
-        match self.drawing.lay(run) {
-            Ok(number) => {
-                self.standing = Standing::Drawn;
-                Ok(number)
-            }
-            Err(refusal) => Err(refusal),
-        }
+        let number = self.drawing.lay(run)?;
+        self.standing = Standing::Drawn;
+        Ok(number)
     }
 }

@@ -13,12 +13,8 @@ impl Rig {
         ensures told { reply_of (λ _. accepted) result ≡ says (ledger_of self.old) (change (limiting v limit)) }
         ensures held { ledger_of self.new ≡ next (ledger_of self.old) (change (limiting v limit)) }
     {
-        match self.drawing.limit(v, limit) {
-            Ok(()) => {
-                self.standing = Standing::Drawn;
-                Ok(())
-            }
-            Err(refusal) => Err(refusal),
-        }
+        self.drawing.limit(v, limit)?;
+        self.standing = Standing::Drawn;
+        Ok(())
     }
 }

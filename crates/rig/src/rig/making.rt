@@ -17,10 +17,7 @@ impl Rig {
         ensures { RigMade points result }
     {
         let drawing = RigDrawing::new(heap, points)?;
-        match Rig::from_drawing(heap, drawing) {
-            Ok(rig) => Ok(rig),
-            Err(_) => Err(MakeError::Memory),
-        }
+        Ok(Rig::from_drawing(heap, drawing)?)
     }
 
     // A rig of the drawing, without an ending.

@@ -13,18 +13,10 @@ impl Rig {
         ensures told { reply_of (λ _. accepted) result ≡ says (ledger_of self.old) (change (marking v code)) }
         ensures held { ledger_of self.new ≡ next (ledger_of self.old) (change (marking v code)) }
     {
-        if v < 1 || v > self.drawing.drawing.points.len() {
-            return Err(Refusal::NoSuchPoint);
-        }
-        let Some(mark) = Mark::from_code(code) else {
-            return Err(Refusal::NoSuchMark);
-        };
-        match self.drawing.mark(v, mark) {
-            Ok(()) => {
-                self.standing = Standing::Drawn;
-                Ok(())
-            }
-            Err(refusal) => Err(refusal),
-        }
+        self.drawing.point_index(v)?;
+        let mark = Mark::try_from(code)?;
+        self.drawing.mark(v, mark)?;
+        self.standing = Standing::Drawn;
+        Ok(())
     }
 }

@@ -13,12 +13,8 @@ impl Rig {
         ensures told { reply_of (λ _. accepted) result ≡ says (ledger_of self.old) (change (rerating k lower upper)) }
         ensures held { ledger_of self.new ≡ next (ledger_of self.old) (change (rerating k lower upper)) }
     {
-        match self.drawing.rerate(k, lower, upper) {
-            Ok(()) => {
-                self.standing = Standing::Drawn;
-                Ok(())
-            }
-            Err(refusal) => Err(refusal),
-        }
+        self.drawing.rerate(k, lower, upper)?;
+        self.standing = Standing::Drawn;
+        Ok(())
     }
 }

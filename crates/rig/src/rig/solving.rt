@@ -2,24 +2,13 @@
 ghost use Rattle.std.specs.Prelude.{◌≡◌};
 ghost use Rattle.drawing.specs.Records.{network};
 ghost use Rattle.drawing.specs.Solvers.{refusal, told, Written};
-ghost use Rattle.ledger.specs.Endings.{standing_by};
 ghost use Rattle.ledger.specs.Ledgers.{solve as solving, says, next, reply_of, accepted};
 ghost use Rattle.rig.specs.Rigs.{ledger_of};
 
 use crate::Rig;
-use drawing::{Record, Refusal, Solver, Verdict};
+use drawing::{Record, Refusal, Solver};
 use ledger::Standing;
 use rig_drawing::RigDrawing;
-
-// The standing that a verdict gives.
-fn standing_after(verdict: Verdict) -> Standing
-    ensures { result ≡ standing_by verdict }
-{
-    match verdict {
-        Verdict::Plan => Standing::Planned,
-        Verdict::Shortage => Standing::Short,
-    }
-}
 
 // The solver's answer to the drawing, into the record.
 fn solve_into<S: Solver>(solver: &mut S, rig: &RigDrawing, out: &mut Record) -> Result<(), Refusal>
@@ -40,12 +29,8 @@ impl Rig {
         ensures keeps_statements { S.states solver.new ≡ S.states solver.old }
         ensures keeps_answers { S.answer solver.new ≡ S.answer solver.old }
     {
-        match solve_into(solver, &self.drawing, &mut self.answer) {
-            Ok(()) => {
-                self.standing = standing_after(self.answer.verdict);
-                Ok(())
-            }
-            Err(e) => Err(e),
-        }
+        solve_into(solver, &self.drawing, &mut self.answer)?;
+        self.standing = Standing::from(self.answer.verdict);
+        Ok(())
     }
 }

@@ -1,8 +1,8 @@
 // The changes of a rig's drawing. Checks go by rising number, and a refusal alters nothing.
-ghost use Rattle.std.specs.Prelude.{◌≡◌, ◌+◌};
-ghost use Rattle.drawing.specs.Drawings.{run_count};
+ghost use Rattle.std.specs.Prelude.{◌≡◌, ◌+◌, ◌-◌, ◌≤◌, ◌&&◌, None, nat_le, IfOk};
+ghost use Rattle.drawing.specs.Drawings.{point_count, run_count};
 ghost use Rattle.drawing.specs.Records.{network};
-ghost use Rattle.rig_drawing.specs.Changes.{answered, held_after, is_range, is_limit, mark_refusal, marked, limit_refusal, limited, lay_refusal, laid, rerate_refusal, rerated};
+ghost use Rattle.rig_drawing.specs.Changes.{check, answered, held_after, is_range, is_limit, run_refusal, mark_refusal, marked, limit_refusal, limited, lay_refusal, laid, rerate_refusal, rerated};
 
 use crate::RigDrawing;
 use drawing::{Kind, Mark, Refusal, Run};
@@ -11,33 +11,51 @@ use drawing::{Kind, Mark, Refusal, Run};
 fn in_range(kind: Kind, lower: u32, upper: u32) -> bool
     ensures { result ≡ is_range kind lower upper }
 {
-    let fixed = match kind {
-        Kind::Lead => true,
-        Kind::Link => lower == 0,
-    };
-    lower <= upper && upper <= 9_999 && fixed
+    lower <= upper && upper <= 9_999 && (kind == Kind::Lead || lower == 0)
 }
 
 // Whether a point of a rig may have the limit.
 fn limit_in_range(limit: Option<u32>) -> bool
     ensures { result ≡ is_limit limit }
 {
-    match limit {
-        Some(most) => most <= 9_999,
-        None => true,
+    limit.is_none_or(|most| most <= 9_999)
+}
+
+// The index of what is counted from 1 to `count`, or the refusal.
+fn index_of(k: usize, count: usize, refusal: Refusal) -> Result<usize, Refusal>
+    ensures told { result ≡ answered (check (nat_le 1 k && nat_le k count) refusal None) (k - 1) }
+    ensures within { IfOk result (λ i. (i + 1 ≡ k) × (k ≤ count)) }
+{
+    if k < 1 || k > count {
+        return Err(refusal);
     }
+    Ok(k - 1)
 }
 
 impl RigDrawing {
+    // The index of point v, which is counted from 1.
+    pub fn point_index(&self, v: usize) -> Result<usize, Refusal>
+        ensures told { result ≡ answered (mark_refusal (network self.now.drawing) v) (v - 1) }
+        ensures within { IfOk result (λ i. (i + 1 ≡ v) × (v ≤ point_count (network self.now.drawing))) }
+    {
+        index_of(v, self.drawing.points.len(), Refusal::NoSuchPoint)
+    }
+
+    // The index of run k, which is counted from 1.
+    pub fn run_index(&self, k: usize) -> Result<usize, Refusal>
+        ensures told { result ≡ answered (run_refusal (network self.now.drawing) k) (k - 1) }
+        ensures within { IfOk result (λ i. (i + 1 ≡ k) × (k ≤ run_count (network self.now.drawing))) }
+    {
+        index_of(k, self.drawing.runs.len(), Refusal::NoSuchRun)
+    }
+
     // Marks point v.
     pub fn mark(&mut self, v: usize, mark: Mark) -> Result<(), Refusal>
         ensures told { result ≡ answered (mark_refusal (network self.old.drawing) v) tt }
         ensures held { network self.new.drawing ≡ held_after (mark_refusal (network self.old.drawing) v) (marked (network self.old.drawing) v mark) (network self.old.drawing) }
     {
-        if v < 1 || v > self.drawing.points.len() {
-            return Err(Refusal::NoSuchPoint);
-        }
-        self.drawing.points[v - 1].mark = mark;
+        let i = self.point_index(v)?;
+        self.drawing.points[i].mark = mark;
         Ok(())
     }
 
@@ -46,13 +64,11 @@ impl RigDrawing {
         ensures told { result ≡ answered (limit_refusal (network self.old.drawing) v limit) tt }
         ensures held { network self.new.drawing ≡ held_after (limit_refusal (network self.old.drawing) v limit) (limited (network self.old.drawing) v limit) (network self.old.drawing) }
     {
-        if v < 1 || v > self.drawing.points.len() {
-            return Err(Refusal::NoSuchPoint);
-        }
+        let i = self.point_index(v)?;
         if !limit_in_range(limit) {
             return Err(Refusal::BadRange);
         }
-        self.drawing.points[v - 1].limit = limit;
+        self.drawing.points[i].limit = limit;
         Ok(())
     }
 
@@ -61,10 +77,8 @@ impl RigDrawing {
         ensures told { result ≡ answered (lay_refusal (network self.old.drawing) run) (run_count (network self.old.drawing) + 1) }
         ensures held { network self.new.drawing ≡ held_after (lay_refusal (network self.old.drawing) run) (laid (network self.old.drawing) run) (network self.old.drawing) }
     {
-        let n = self.drawing.points.len();
-        if run.tail < 1 || run.tail > n || run.head < 1 || run.head > n {
-            return Err(Refusal::NoSuchPoint);
-        }
+        self.point_index(run.tail)?;
+        self.point_index(run.head)?;
         if !in_range(run.kind, run.lower, run.upper) {
             return Err(Refusal::BadRange);
         }
@@ -84,14 +98,12 @@ impl RigDrawing {
         ensures told { result ≡ answered (rerate_refusal (network self.old.drawing) k lower upper) tt }
         ensures held { network self.new.drawing ≡ held_after (rerate_refusal (network self.old.drawing) k lower upper) (rerated (network self.old.drawing) k lower upper) (network self.old.drawing) }
     {
-        if k < 1 || k > self.drawing.runs.len() {
-            return Err(Refusal::NoSuchRun);
-        }
-        let kind = self.drawing.runs[k - 1].kind;
+        let i = self.run_index(k)?;
+        let kind = self.drawing.runs[i].kind;
         if !in_range(kind, lower, upper) {
             return Err(Refusal::BadRange);
         }
-        if let Some(run) = self.drawing.run_mut(k - 1) {
+        if let Some(run) = self.drawing.run_mut(i) {
             run.lower = lower;
             run.upper = upper;
         }

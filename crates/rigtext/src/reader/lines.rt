@@ -1,5 +1,5 @@
 // Reading a text line by line.
-ghost use Rattle.std.specs.Prelude.{◌≡◌, ◌+◌, ◌<◌, ◌≤◌, length, drop, IfOk};
+ghost use Rattle.std.specs.Prelude.{◌≡◌, ◌+◌, ◌<◌, ◌≤◌, length, drop, take_while, IfOk};
 ghost use Rattle.std.specs.List.{prefix_len};
 ghost use Rattle.reading.specs.Lines.{in_line, start_of};
 ghost use Rattle.reading.specs.Reading.{finished};
@@ -14,17 +14,20 @@ use rig_draft::Draft;
 use rig_lines::Line;
 use std::alloc::{AllocError, Global};
 
+// How many bytes at the front are no LF.
+fn line_length(bytes: &[u8]) -> usize
+    ensures { result ≡ length (take_while in_line bytes.now) }
+{
+    bytes.iter().take_while(|b| **b != b'\n').count()
+}
+
 // The place of the LF that ends the line at `at`, or the text's length.
 fn line_end(text: &[u8], at: usize) -> usize
     requires { at ≤ length text.now }
     ensures value { result ≡ at + prefix_len in_line (drop at text.now) }
     ensures within { (at ≤ result) × (result ≤ length text.now) }
 {
-    let mut n = at;
-    while n < text.len() && text[n] != b'\n' {
-        n += 1;
-    }
-    n
+    at + line_length(&text[at..])
 }
 
 // Takes the line from `start` to before `end` into the draft, and shows it.
@@ -38,16 +41,10 @@ fn taken<'a>(
     ensures shown { shown_line result ≡ line_shown (progress draft.old) start (line_from text.now start) }
     ensures held { progress draft.new ≡ left (line_taken (progress draft.old) (line_from text.now start)) (progress draft.old) }
 {
-    let Some(line) = Line::at(text, start, end) else {
-        return Err(Refusal::UnknownLine);
-    };
-    let Some(item) = line.item() else {
-        return Err(Refusal::UnknownLine);
-    };
-    match draft.take(item) {
-        Ok(()) => Ok(line),
-        Err(refusal) => Err(refusal),
-    }
+    let line = Line::at(text, start, end).ok_or(Refusal::UnknownLine)?;
+    let item = line.item().ok_or(Refusal::UnknownLine)?;
+    draft.take(item)?;
+    Ok(line)
 }
 
 impl<'a> Reader<'a> {
@@ -121,6 +118,8 @@ impl<'a> Reader<'a> {
         if self.place >= self.text.len() {
             return self.at_end();
         }
+        // A match: each of three facts is told of a line that was taken and of one that was not, and over `map` and `map_err`
+        // a lemma would have to tell the two cases once more.
         match self.take_line() {
             Ok(line) => Ok(Some(line)),
             Err(refusal) => Err(Fault {

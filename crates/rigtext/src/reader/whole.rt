@@ -3,19 +3,36 @@ ghost use Rattle.std.specs.Prelude.{◌≡◌, length, Ok, Err, MatchResult};
 ghost use Rattle.drawing.specs.Records.{network};
 ghost use Rattle.reading.specs.Lines.{LinesExactly, start_of};
 ghost use Rattle.reading.specs.Describing.{ReadsExactly, ReadBounded};
+ghost use Rattle.rigtext.specs.declared.reader.whole.ReadError.TheVariants.{Fault as Faulty, Memory};
 ghost use Rattle.rigtext.specs.States.{state};
 ghost use Rattle.rigtext.specs.Reads.{rest_read, rig_in, Reads, Tells, place_after};
 
 use crate::reader::Reader;
 use reading::Fault;
 use rig_drawing::RigDrawing;
-use std::alloc::Global;
+use std::alloc::{AllocError, Global};
 
 // Why no rig was read: a fault of the text, or want of memory.
-#[derive(Clone, Copy)]
+#[derive(Clone, Copy, PartialEq, Eq)]
 pub enum ReadError {
     Fault(Fault),
     Memory,
+}
+
+impl From<Fault> for ReadError {
+    ghost from_gives = { λ fault error. error ≡ Faulty fault };
+
+    fn from(fault: Fault) -> ReadError {
+        ReadError::Fault(fault)
+    }
+}
+
+impl From<AllocError> for ReadError {
+    ghost from_gives = { λ _ error. error ≡ Memory };
+
+    fn from(_: AllocError) -> ReadError {
+        ReadError::Memory
+    }
 }
 
 impl Reader<'_> {
@@ -36,26 +53,6 @@ impl Reader<'_> {
     }
 }
 
-// What is answered of a text, and the place then, which was `was`.
-fn answered(heap: Global, text: &[u8], was: usize) -> (Result<RigDrawing, ReadError>, usize)
-    ensures reads { Reads text.now result.0 }
-    ensures tells { Tells text.now result.0 }
-    ensures place { result.1 ≡ place_after text.now was result.0 }
-    ensures lines { LinesExactly }
-    ensures exactly { ReadsExactly }
-    ensures bounds { ReadBounded }
-{
-    let Ok(mut reader) = Reader::new(heap, text) else {
-        return (Err(ReadError::Memory), was);
-    };
-    let told = reader.read_rest();
-    let place = reader.place;
-    match told {
-        Ok(()) => (Ok(reader.into_rig()), place),
-        Err(fault) => (Err(ReadError::Fault(fault)), place),
-    }
-}
-
 // Reads a text. The place is then the text's length, after a fault the start of the line that is refused, and after want of memory as it was.
 pub fn read(heap: Global, text: &[u8], place: &mut usize) -> Result<RigDrawing, ReadError>
     ensures reads { Reads text.now result }
@@ -65,7 +62,9 @@ pub fn read(heap: Global, text: &[u8], place: &mut usize) -> Result<RigDrawing, 
     ensures exactly { ReadsExactly }
     ensures bounds { ReadBounded }
 {
-    let (told, reached) = answered(heap, text, *place);
-    *place = reached;
-    told
+    let mut reader = Reader::new(heap, text)?;
+    let told = reader.read_rest();
+    *place = reader.place;
+    told?;
+    Ok(reader.into_rig())
 }

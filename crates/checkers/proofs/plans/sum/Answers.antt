@@ -1,7 +1,7 @@
-use Rattle.std.proofs.Common.{rules}
-use Rattle.drawing.specs.Counts.{nth}
-use Rattle.checkers.proofs.Loops.{sum_more}
+use Rattle.std.proofs.Common.{◌≡◌, sum, sym, ◌∙◌, rules}
+use Rattle.std.proofs.iter.Serving.{returning}
+use Rattle.drawing.proofs.Lists.{sum_items}
 use Rattle.checkers.proofs.plans.sum.Goals as goal
 
-pub loop-x-preserved : goal.loop-x-preserved
-loop-x-preserved c = (sum_more (λ v. nth c.args.xs.now v 0) _ _ _ (search rules) c.loop-x.invariant.0, search rules)
+pub returns : goal.returns
+returns c = let e : c.sum.result ≡ sum c.args.xs.now = search (rules, returning) in e ∙ sym (sum_items 0 c.args.xs.now (λ x. x))

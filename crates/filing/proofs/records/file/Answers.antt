@@ -1,4 +1,4 @@
-use Rattle.std.proofs.Common.{◌≡◌, ℕ, cond, ltb, List, map, length, get_or, ℤ, vec_items, ap, ◌∙◌, arith}
+use Rattle.std.proofs.Common.{◌≡◌, ℕ, ◌-◌, ◌/◌, cond, ltb, List, map, length, get_or, ℤ, vec_items, ap, ◌∙◌, arith}
 use Rattle.std.specs.List.{range_with_len}
 use Rattle.drawing.specs.declared.Label.{Label}
 use Rattle.drawing.specs.declared.Mark.{Mark}
@@ -25,8 +25,8 @@ amounts m t ps = map (λ v. only (is_marked m (nth ps v no_point).mark) t) (rang
 pub returns : goal.returns
 returns c =
     let d = c.args.drawing.now in
-    let runs : c.len.result ≡ length (vec_items d.runs) = omega (arith, c.len.ensures, d.runs.ok.0) in
-    let points : c.len-points.result ≡ length (vec_items d.points) = omega (arith, c.len-points.ensures, d.points.ok.0) in
+    let runs : length c.args.left.now / 2 ≡ length (vec_items d.runs) = omega (arith, d.runs.ok.0) in
+    let points : length c.args.level.now - 1 ≡ length (vec_items d.points) = omega (arith, d.points.ok.0) in
     same
     (c.write_flows.ensures.items ∙ ap (λ (m : ℕ). flows_in m c.args.left.now) runs)
     (c.write_amounts.ensures.items ∙ ap (amounts Rack c.args.total) c.as_slice.ensures.value)

@@ -13,12 +13,12 @@ filled n m source x xs e l = ap (λ (y : List ℕ). set y source x) (e ∙ ap (�
 
 pub drain-requires : goal.drain-requires
 drain-requires c =
-    let n = c.args.points in
-    let source = c.args.source in
-    let sink = c.args.sink in
-    let en = c.requires.net.1.1.1 in
-    let lh : length c.args.height.now ≡ n + 1 = c.requires.points.1.1.1.0 in
-    let le : length c.args.excess.now ≡ n + 1 = c.requires.points.1.1.0 in
+    let n = c.args.between.points in
+    let source = c.args.between.source in
+    let sink = c.args.between.sink in
+    let en = c.args.between.ends in
+    let lh : length c.args.height.now ≡ n + 1 = c.requires.points.1.1 in
+    let le : length c.args.excess.now ≡ n + 1 = c.requires.points.1.0 in
     let D : set c.fill.new.self source n ≡ first_heights n source = filled n (length c.args.height.now) source n c.fill.new.self (c.fill.ensures.after (λ y h. h)) lh in
     let E : set c.fill-2.new.self source 1800000001 ≡ first_excess n source = filled n (length c.args.excess.now) source 1800000001 c.fill-2.new.self (c.fill-2.ensures.after (λ y h. h)) le in
     let lD = ap length D ∙ first_length n source sink en n in
@@ -29,9 +29,8 @@ drain-requires c =
     let some = en.source_some in
     let most = en.source_most in
     record {
-      net = (c.requires.net.0, (c.requires.net.1.0, c.requires.net.1.1.0));
-      sizes = (c.requires.points.0, (c.requires.arcs.0, (lE, lD)));
-      here = (some, (most, (c.requires.points.1.1.1.1, (omega (arith, sE), λ q. omega (arith, q, sD, some, most)))));
+      sizes = (c.requires.arcs.0, (lE, lD));
+      here = (some, (most, (omega (arith, sE), λ q. omega (arith, q, sD, some, most))));
       sound = (c.requires.sound.0, omega (arith, wE));
       queue = (
         subst (Lined source sink source (set c.fill-2.new.self source 1800000001)) (sym c.clear.ensures.items) (subst (λ (y : List ℕ). Lined source sink source y []) (sym E) (first_lined n source sink en)),
@@ -54,18 +53,18 @@ reached_is hs n source sink rs s s₀ k e o = e ∙ ap (λ (x : State). after hs
 
 pub turn-requires : goal.turn-requires
 turn-requires c =
-    let hs = c.args.net.head.now in
-    let n = c.args.points in
-    let source = c.args.source in
-    let sink = c.args.sink in
-    let ar = c.requires.net.1.1.0 in
-    let en = c.requires.net.1.1.1 in
-    let small = c.requires.points.1.1.1.1 in
+    let hs = c.args.between.net.head.now in
+    let n = c.args.between.points in
+    let source = c.args.between.source in
+    let sink = c.args.between.sink in
+    let ar = c.args.between.arcs in
+    let en = c.args.between.ends in
+    let small = c.args.between.few in
     let rs₀ = c.args.left.now in
     let same : length rs₀ ≡ length hs = c.requires.arcs.0 in
     let s₀ : State = record { left = c.drain.new.left; excess = c.drain.new.excess; height = set c.fill.new.self source n; queue = deque_items c.drain.new.queue } in
     let s : State = record { left = c.loop-turn.left; excess = c.loop-turn.excess; height = c.loop-turn.height; queue = deque_items c.loop-turn.queue } in
-    let o = begun_is hs n source sink rs₀ c.fill.new.self c.fill-2.new.self (deque_items c.clear.new.self) c.drain.new.left c.drain.new.excess (deque_items c.drain.new.queue) (length c.args.height.now) (length c.args.excess.now) (c.fill.ensures.after (λ y h. h)) c.requires.points.1.1.1.0 (c.fill-2.ensures.after (λ y h. h)) c.requires.points.1.1.0 c.clear.ensures.items c.drain.ensures.out in
+    let o = begun_is hs n source sink rs₀ c.fill.new.self c.fill-2.new.self (deque_items c.clear.new.self) c.drain.new.left c.drain.new.excess (deque_items c.drain.new.queue) (length c.args.height.now) (length c.args.excess.now) (c.fill.ensures.after (λ y h. h)) c.requires.points.1.1 (c.fill-2.ensures.after (λ y h. h)) c.requires.points.1.0 c.clear.ensures.items c.drain.ensures.out in
     let e = reached_is hs n source sink rs₀ s s₀ c.loop-turn.turn c.loop-turn.invariant.0 o in
     let r = ready hs rs₀ n source sink ar en same small c.requires.sound.1 c.requires.sound.0 c.loop-turn.turn s e in
     let f = front_within hs rs₀ n source sink ar en same small s r.2 c.in-Some.v (deque_items c.leave.new.queue) c.in-Some.ensures.front in
@@ -79,21 +78,21 @@ turn-requires c =
     let kb = c.loop-turn.auto.back in
     let kl = c.loop-turn.auto.level in
     let pb = c.requires.arcs.1 in
-    let pl = c.requires.points.1.0 in
+    let pl = c.requires.points.0 in
     record {
-      net = (c.requires.net.0, (c.requires.net.1.0, (ar, en)));
-      sizes = (c.requires.points.0, (ll ∙ same, (omega (arith, kb, pb), (omega (arith, kl, pl), r.2.pre.points))));
-      here = (r.2.pre.heights, (f.0.0, (f.0.1, (small, act))));
+      arcs = (ll ∙ same, omega (arith, kb, pb));
+      points = (omega (arith, kl, pl), (r.2.pre.points, r.2.pre.heights));
+      here = (f.0.0, (f.0.1, act));
       sound = (r.0, r.1);
       queue = (f.2, omega (arith, cap, cap0, cap1, cap2, room));
     }
 
 pub loop-turn-preserved : goal.loop-turn-preserved
 loop-turn-preserved c =
-    let hs = c.args.net.head.now in
-    let n = c.args.points in
-    let source = c.args.source in
-    let sink = c.args.sink in
+    let hs = c.args.between.net.head.now in
+    let n = c.args.between.points in
+    let source = c.args.between.source in
+    let sink = c.args.between.sink in
     let s₀ : State = record { left = c.drain.new.left; excess = c.drain.new.excess; height = set c.fill.new.self source n; queue = deque_items c.drain.new.queue } in
     let s : State = record { left = c.loop-turn.left; excess = c.loop-turn.excess; height = c.loop-turn.height; queue = deque_items c.loop-turn.queue } in
     let f = after_front hs n source sink s₀ c.loop-turn.turn s c.in-Some.v (deque_items c.leave.new.queue) c.loop-turn.invariant.0 c.in-Some.ensures.front in
@@ -101,19 +100,19 @@ loop-turn-preserved c =
 
 pub returns : goal.returns
 returns c =
-    let hs = c.args.net.head.now in
-    let n = c.args.points in
-    let source = c.args.source in
-    let sink = c.args.sink in
-    let ar = c.requires.net.1.1.0 in
-    let en = c.requires.net.1.1.1 in
-    let small = c.requires.points.1.1.1.1 in
+    let hs = c.args.between.net.head.now in
+    let n = c.args.between.points in
+    let source = c.args.between.source in
+    let sink = c.args.between.sink in
+    let ar = c.args.between.arcs in
+    let en = c.args.between.ends in
+    let small = c.args.between.few in
     let rs₀ = c.args.left.now in
     let same : length rs₀ ≡ length hs = c.requires.arcs.0 in
     let turn = c.loop-turn.turn in
     let s₀ : State = record { left = c.drain.new.left; excess = c.drain.new.excess; height = set c.fill.new.self source n; queue = deque_items c.drain.new.queue } in
     let s : State = record { left = c.loop-turn.left; excess = c.loop-turn.excess; height = c.loop-turn.height; queue = deque_items c.loop-turn.queue } in
-    let o = begun_is hs n source sink rs₀ c.fill.new.self c.fill-2.new.self (deque_items c.clear.new.self) c.drain.new.left c.drain.new.excess (deque_items c.drain.new.queue) (length c.args.height.now) (length c.args.excess.now) (c.fill.ensures.after (λ y h. h)) c.requires.points.1.1.1.0 (c.fill-2.ensures.after (λ y h. h)) c.requires.points.1.1.0 c.clear.ensures.items c.drain.ensures.out in
+    let o = begun_is hs n source sink rs₀ c.fill.new.self c.fill-2.new.self (deque_items c.clear.new.self) c.drain.new.left c.drain.new.excess (deque_items c.drain.new.queue) (length c.args.height.now) (length c.args.excess.now) (c.fill.ensures.after (λ y h. h)) c.requires.points.1.1 (c.fill-2.ensures.after (λ y h. h)) c.requires.points.1.0 c.clear.ensures.items c.drain.ensures.out in
     let e : s ≡ states hs n source sink rs₀ turn = reached_is hs n source sink rs₀ s s₀ turn c.loop-turn.invariant.0 o in
     let end : final hs n source sink rs₀ ≡ s =
     elim c.loop-turn-test.branch [

@@ -1,137 +1,133 @@
-use Rattle.std.proofs.Common.{◌≡◌, ℕ, ◌-◌, ◌%◌, ◌<◌, ◌≤◌, min, eqb, List, get_or, set, sym, ap, ◌∙◌, subst, arith}
+use Rattle.std.proofs.Common.{◌≡◌, ℕ, suc, ◌-◌, ◌%◌, ◌≤◌, eqb, List, ◌∷◌, length, get_or, set, sym, refl, ap, ◌∙◌, subst, arith}
 use Rattle.std.proofs.lemmas.Bool.{cond-true, cond-false, eq-eqb, ne_eqb}
-use Rattle.residual.specs.Net.{head_of, Place, Placed, Bounded, moved}
-use Rattle.blocking.specs.Push.{scans, pushes}
-use Rattle.residual.proofs.Chains.{follow_place, follow_less}
+use Rattle.residual.specs.Net.{leavers, head_of, Bounded}
+use Rattle.residual.specs.Leavers.{leavers_left}
+use Rattle.blocking.specs.Push.{pushes}
+use Rattle.residual.proofs.Leavers.{leavers_within}
 use Rattle.blocking.proofs.Flows.{placed_at}
-use Rattle.blocking.proofs.Scans.{after_call, pushes_on, pushes_at, scans_shut, scans_off, scans_stop, scans_more, scans_end}
+use Rattle.blocking.proofs.Scans.{after_call, pushes_on, pushes_at, along, scans_along, along_shut, along_off, along_stop, along_more, along_end}
 use Rattle.blocking.proofs.layers.Layers.+push.Goals as goal
-use Rattle.blocking.proofs.layers.Layers.+push.Goals.{then-left-a-gt0+then-self-w+else-rest-eq0, else-left-a-gt0, else-left-a-gt0-via-then-left-a-gt0+else-self-w, else-left-a-gt0-via-else-left-a-gt0}
-use Rattle.blocking.proofs.layers.Layers.+push.Goals.{else-loop-at-test, then-loop-at-test+then-left-a-gt0+then-self-w+then-rest-eq0}
+use Rattle.blocking.proofs.layers.Layers.+push.Goals.{else-left-a-gt0-via-then-left-a-gt0+else-self-w, else-left-a-gt0-via-else-left-a-gt0}
+use Rattle.blocking.proofs.layers.Layers.+push.Goals.{in-None, in-Some+then-left-a-gt0+then-self-w+then-rest-eq0}
 
-pub returns-then-v-self : goal.returns-then-v-self
-returns-then-v-self t c =
+pub returns-then-v-self-clause-out : goal.returns-then-v-self-clause-out
+returns-then-v-self-clause-out t c =
     let z : ◌≡◌ {A = ℕ} 0 (c.args.limit - c.args.limit) = omega arith in
-    record {
-      out = pushes_at c.args.self.head.now c.args.self.level.now c.args.self.sink c.args.self.top c.args.depth c.args.v c.args.limit c.args.left.now c.args.current.now c.if-depth-eq0.true
-          ∙ ap (λ (x : ℕ). (c.args.left.now, c.args.current.now, x)) (cond-true (eqb c.args.v c.args.self.sink) 0 c.args.limit (eq-eqb _ _ c.if-v-self.true) ∙ z);
-      most = omega arith;
-    }
+    pushes_at c.args.self.net.head.now c.args.self.level.now c.args.self.sink c.args.self.top c.args.depth c.args.v c.args.limit c.args.left.now c.args.current.now c.if-depth-eq0.true
+    ∙ ap (λ (x : ℕ). (c.args.left.now, c.args.current.now, x)) (cond-true (eqb c.args.v c.args.self.sink) 0 c.args.limit (eq-eqb _ _ c.if-v-self.true) ∙ z)
 
-pub returns-else-v-self : goal.returns-else-v-self
-returns-else-v-self t c =
+pub returns-else-v-self-clause-out : goal.returns-else-v-self-clause-out
+returns-else-v-self-clause-out t c =
     let z : c.args.limit ≡ c.args.limit - 0 = omega arith in
-    record {
-      out = pushes_at c.args.self.head.now c.args.self.level.now c.args.self.sink c.args.self.top c.args.depth c.args.v c.args.limit c.args.left.now c.args.current.now c.if-depth-eq0.true
-          ∙ ap (λ (x : ℕ). (c.args.left.now, c.args.current.now, x)) (cond-false (eqb c.args.v c.args.self.sink) 0 c.args.limit (ne_eqb _ _ c.if-v-self.false) ∙ z);
-      most = omega arith;
-    }
+    pushes_at c.args.self.net.head.now c.args.self.level.now c.args.self.sink c.args.self.top c.args.depth c.args.v c.args.limit c.args.left.now c.args.current.now c.if-depth-eq0.true
+    ∙ ap (λ (x : ℕ). (c.args.left.now, c.args.current.now, x)) (cond-false (eqb c.args.v c.args.self.sink) 0 c.args.limit (ne_eqb _ _ c.if-v-self.false) ∙ z)
 
-pub loop-at-init : goal.loop-at-init
-loop-at-init t c = (
-  placed_at c.args.self.head.now c.args.current.now c.args.v c.requires.sound.0,
-  c.requires.sound.0,
-  c.requires.sound.1,
-  omega arith,
-  pushes_on c.args.self.head.now c.args.self.level.now c.args.self.sink c.args.self.top c.args.depth c.args.v c.args.limit c.args.left.now c.args.current.now c.if-depth-eq0.false,
-)
+pub loop-a-init : goal.loop-a-init
+loop-a-init t c =
+    let hs = c.args.self.net.head.now in
+    let v = c.args.v in
+    let at = get_or c.args.current.now v 0 in
+    let p = placed_at hs c.args.current.now v c.requires.sound.0 in
+    let items : leavers_left c.into_iter-a-iterator.result ≡ leavers hs v at = ap leavers_left c.into_iter-a-iterator.ensures.into_iter_gives ∙ c.leaving_from-a-items.ensures in
+    let on = pushes_on hs c.args.self.level.now c.args.self.sink c.args.self.top c.args.depth v c.args.limit c.args.left.now c.args.current.now c.if-depth-eq0.false in
+    rw items (
+      tt,
+      tt,
+      leavers_within hs v at (length hs) p.within,
+      c.requires.sound.0,
+      c.requires.sound.1,
+      omega arith,
+      refl,
+      sym (scans_along hs c.args.self.level.now (pushes hs c.args.self.level.now c.args.self.sink c.args.self.top (c.args.depth - 1)) v (c.args.self.top - (c.args.depth - 1)) at c.args.limit c.args.left.now c.args.current.now) ∙ on,
+    )
 
 pub carry-requires : goal.carry-requires
 carry-requires t c =
-    let f = after_call {hs = c.args.self.head.now} {ns = c.args.self.next.now} {ls = c.args.self.level.now} c.args.self.sink c.args.self.top c.args.depth c.args.v c.loop-at.at c.loop-at.rest c.push-got.result c.min-most.result c.loop-at.left c.loop-at.current c.push-got.new.left c.push-got.new.current c.requires.net c.loop-at.invariant.0 (omega arith) c.if-depth-eq0.false c.requires.here.1.0 c.if-self-w.true (omega arith) c.loop-at.invariant.1 c.loop-at.invariant.2 c.min-most.ensures c.push-got.ensures.most c.push-got.ensures.out in
-    let short = c.requires.net.short in
-    let even = c.requires.net.even in
-    let at = c.loop-at.invariant.0.within in
+    let i = (rw c.in-Some.ensures.steps at c.loop-a.invariant) in
+    let f = after_call {hs = c.args.self.net.head.now} {ns = c.args.self.net.next.now} {ls = c.args.self.level.now} c.args.self.sink c.args.self.top c.args.depth c.args.v c.in-Some.a c.loop-a.rest c.push-got.result c.min-most.result c.loop-a.left c.loop-a.current c.push-got.new.left c.push-got.new.current c.args.self.net.chained i.2.0 c.if-depth-eq0.false c.requires.here.1 c.if-self-w.true (omega arith) i.3 i.4 c.min-most.ensures c.push-got.ensures.most c.push-got.ensures.out in
+    let short = c.args.self.net.chained.short in
+    let even = c.args.self.net.chained.even in
     let size = f.size in
     let half = ap (λ (x : ℕ). x % 2) size in
-    record { here = (omega arith, (omega arith, omega arith)); most = (f.covers, f.fits) }
+    record { here = (omega (arith, size, i.2.0.0), (omega arith, omega (arith, half, even))); most = (f.covers, f.fits) }
 
-pub loop-at-smaller : goal.loop-at-smaller
-loop-at-smaller t c = follow_less c.args.v c.loop-at.at c.requires.net c.loop-at.invariant.0 (omega arith)
-
-pub loop-at-preserved : goal.loop-at-preserved
-loop-at-preserved t c =
-    let hs = c.args.self.head.now in
+pub loop-a-preserved-then-self-w : goal.loop-a-preserved-then-self-w
+loop-a-preserved-then-self-w t c =
+    let hs = c.args.self.net.head.now in
     let ls = c.args.self.level.now in
-    let ns = c.args.self.next.now in
-    let at = c.loop-at.at in
-    let pos : 0 < at = omega arith in
+    let a = c.in-Some.a in
     let P = pushes hs ls c.args.self.sink c.args.self.top (c.args.depth - 1) in
     let lv = c.args.self.top - (c.args.depth - 1) in
-    let place = follow_place c.args.v at c.requires.net c.loop-at.invariant.0 pos in
-    let goal : Type 0 = Place hs c.args.v (get_or ns (at - 1) 0) × Placed hs c.if-left-a-gt0.current × Bounded c.if-left-a-gt0.left × (c.if-left-a-gt0.rest ≤ c.args.limit)
-    × (scans hs ls P c.args.v lv (get_or ns (at - 1) 0) c.if-left-a-gt0.rest c.if-left-a-gt0.left c.if-left-a-gt0.current
-    ≡ pushes hs ls c.args.self.sink c.args.self.top c.args.depth c.args.v c.args.limit c.args.left.now c.args.current.now) in
-    elim c.if-left-a-gt0.branch [
-      | then-left-a-gt0+then-self-w+else-rest-eq0 w ↦
-          let f = after_call {hs = c.args.self.head.now} {ns = c.args.self.next.now} {ls = c.args.self.level.now} c.args.self.sink c.args.self.top c.args.depth c.args.v c.loop-at.at c.loop-at.rest w.push-got.result w.min-most.result c.loop-at.left c.loop-at.current w.push-got.new.left w.push-got.new.current c.requires.net c.loop-at.invariant.0 (omega arith) c.if-depth-eq0.false c.requires.here.1.0 w.if-self-w.true (omega arith) c.loop-at.invariant.1 c.loop-at.invariant.2 w.min-most.ensures w.push-got.ensures.most w.push-got.ensures.out in
-          let got = w.push-got.result in
-          let rs' = w.push-got.new.left in
-          let cs' = w.push-got.new.current in
-          let m = w.left-is ∙ w.carry.ensures in
-          let lim = c.loop-at.invariant.3 in
-          let amount = min c.loop-at.rest (get_or c.loop-at.left (at - 1) 0) in
-          let less = subst (λ (x : ℕ). got ≤ x) w.min-most.ensures w.push-got.ensures.most in
-          let out = subst (λ (x : ℕ). P (head_of hs (at - 1)) x c.loop-at.left c.loop-at.current ≡ (rs', cs', x - got)) w.min-most.ensures w.push-got.ensures.out in
-          let more = scans_more hs ls P c.args.v lv ns _ at c.loop-at.rest c.loop-at.left c.loop-at.current c.requires.net c.loop-at.invariant.0 pos rs' cs' got w.if-left-a-gt0.true w.if-self-w.true less out w.if-rest-eq0.false in (
-            place,
-            subst (Placed hs) (sym w.current-is) f.placed,
-            subst Bounded (sym m) f.bounded,
-            (let e = w.rest-is in omega arith),
-            ap (λ (x : ℕ). scans hs ls P c.args.v lv (get_or ns (at - 1) 0) x c.if-left-a-gt0.left c.if-left-a-gt0.current) w.rest-is
-                ∙ ap (λ (x : List ℕ). scans hs ls P c.args.v lv (get_or ns (at - 1) 0) (c.loop-at.rest - got) x c.if-left-a-gt0.current) m
-                ∙ ap (λ (x : List ℕ). scans hs ls P c.args.v lv (get_or ns (at - 1) 0) (c.loop-at.rest - got) (moved rs' (at - 1) got) x) w.current-is
-                ∙ sym more ∙ c.loop-at.invariant.4,
-          )
-      | else-left-a-gt0 w ↦
-          let same : scans hs ls P c.args.v lv at c.loop-at.rest c.loop-at.left c.loop-at.current ≡ scans hs ls P c.args.v lv (get_or ns (at - 1) 0) c.loop-at.rest c.loop-at.left c.loop-at.current =
-          elim w.else-left-a-gt0.branch [
-            | else-left-a-gt0-via-then-left-a-gt0+else-self-w w' ↦ scans_off hs ls P c.args.v lv ns _ at c.loop-at.rest c.loop-at.left c.loop-at.current c.requires.net c.loop-at.invariant.0 pos w'.if-self-w.false
-            | else-left-a-gt0-via-else-left-a-gt0 w' ↦ scans_shut hs ls P c.args.v lv ns _ at c.loop-at.rest c.loop-at.left c.loop-at.current c.requires.net c.loop-at.invariant.0 pos w'.if-left-a-gt0.false
-          ] in (
-            place,
-            subst (Placed hs) (sym w.current-is) c.loop-at.invariant.1,
-            subst Bounded (sym w.left-is) c.loop-at.invariant.2,
-            (let e = w.rest-is in let l = c.loop-at.invariant.3 in omega arith),
-            ap (λ (x : ℕ). scans hs ls P c.args.v lv (get_or ns (at - 1) 0) x c.if-left-a-gt0.left c.if-left-a-gt0.current) w.rest-is
-                ∙ ap (λ (x : List ℕ). scans hs ls P c.args.v lv (get_or ns (at - 1) 0) c.loop-at.rest x c.if-left-a-gt0.current) w.left-is
-                ∙ ap (λ (x : List ℕ). scans hs ls P c.args.v lv (get_or ns (at - 1) 0) c.loop-at.rest c.loop-at.left x) w.current-is
-                ∙ sym same ∙ c.loop-at.invariant.4,
-          )
-    ]
+    let i = (rw c.in-Some.ensures.steps at c.loop-a.invariant) in
+    let f = after_call {hs = hs} {ns = c.args.self.net.next.now} {ls = ls} c.args.self.sink c.args.self.top c.args.depth c.args.v a c.loop-a.rest c.push-got.result c.min-most.result c.loop-a.left c.loop-a.current c.push-got.new.left c.push-got.new.current c.args.self.net.chained i.2.0 c.if-depth-eq0.false c.requires.here.1 c.if-self-w.true (omega arith) i.3 i.4 c.min-most.ensures c.push-got.ensures.most c.push-got.ensures.out in
+    let got = c.push-got.result in
+    let rs' = c.push-got.new.left in
+    let cs' = c.push-got.new.current in
+    let m = c.carry.ensures in
+    let lim = i.5 in
+    let less = subst (λ (x : ℕ). got ≤ x) c.min-most.ensures c.push-got.ensures.most in
+    let out = subst (λ (x : ℕ). P (head_of hs a) x c.loop-a.left c.loop-a.current ≡ (rs', cs', x - got)) c.min-most.ensures c.push-got.ensures.out in
+    let more = along_more hs ls P c.args.v lv a (leavers_left c.next.new.self) c.loop-a.rest c.loop-a.left c.loop-a.current rs' cs' got c.if-left-a-gt0.true c.if-self-w.true less out c.if-rest-eq0.false in (
+      tt,
+      tt,
+      i.2.1,
+      f.placed,
+      subst Bounded (sym m) f.bounded,
+      omega arith,
+      i.6,
+      ap (λ (x : List ℕ). along hs ls P c.args.v lv (leavers_left c.next.new.self) (c.loop-a.rest - got) x cs') m ∙ sym more ∙ i.7,
+    )
 
-pub returns : goal.returns
-returns t c =
-    let hs = c.args.self.head.now in
+pub loop-a-preserved : goal.loop-a-preserved
+loop-a-preserved t c =
+    let hs = c.args.self.net.head.now in
     let ls = c.args.self.level.now in
-    let ns = c.args.self.next.now in
-    let v = c.args.v in
-    let at = c.loop-at.at in
+    let a = c.in-Some.a in
     let P = pushes hs ls c.args.self.sink c.args.self.top (c.args.depth - 1) in
     let lv = c.args.self.top - (c.args.depth - 1) in
-    let limit = c.args.limit in
-    let out : scans hs ls P v lv at c.loop-at.rest c.loop-at.left c.loop-at.current ≡ (c.loop-at-test.left, set c.loop-at-test.current v at, limit - (limit - c.loop-at-test.rest)) =
-    elim c.loop-at-test.branch [
-      | else-loop-at-test w ↦
-          let z : at ≡ 0 = let l = w.loop-at-test.false in omega arith in
-          let back : c.loop-at.rest ≡ limit - (limit - c.loop-at-test.rest) = let e = w.rest-is in let l = c.loop-at.invariant.3 in omega arith in
-          scans_end hs ls P v lv at c.loop-at.rest c.loop-at.left c.loop-at.current z
-          ∙ ap (λ (x : List ℕ). (x, set c.loop-at.current v at, c.loop-at.rest)) (sym w.left-is)
-          ∙ ap (λ (x : List ℕ). (c.loop-at-test.left, set x v at, c.loop-at.rest)) (sym w.current-is)
-          ∙ ap (λ (x : ℕ). (c.loop-at-test.left, set c.loop-at-test.current v at, x)) back
-      | then-loop-at-test+then-left-a-gt0+then-self-w+then-rest-eq0 w ↦
-          let pos = w.loop-at-test.true in
-          let got = w.push-got.result in
-          let rs' = w.push-got.new.left in
-          let cs' = w.push-got.new.current in
-          let m = w.left-is ∙ w.carry.ensures in
-          let less = subst (λ (x : ℕ). got ≤ x) w.min-most.ensures w.push-got.ensures.most in
-          let call = subst (λ (x : ℕ). P (head_of hs (at - 1)) x c.loop-at.left c.loop-at.current ≡ (rs', cs', x - got)) w.min-most.ensures w.push-got.ensures.out in
-          let stop = scans_stop hs ls P v lv ns _ at c.loop-at.rest c.loop-at.left c.loop-at.current c.requires.net c.loop-at.invariant.0 pos rs' cs' got w.if-left-a-gt0.true w.if-self-w.true less call w.if-rest-eq0.true in
-          let back : ◌≡◌ {A = ℕ} 0 (limit - (limit - c.loop-at-test.rest)) = let e = w.rest-is in let z = w.if-rest-eq0.true in omega arith in
-          stop
-          ∙ ap (λ (x : List ℕ). (x, set cs' v at, 0)) (sym m)
-          ∙ ap (λ (x : List ℕ). (c.loop-at-test.left, set x v at, 0)) (sym w.current-is)
-          ∙ ap (λ (x : ℕ). (c.loop-at-test.left, set c.loop-at-test.current v at, x)) back
+    let ks = leavers_left c.next.new.self in
+    let i = (rw c.in-Some.ensures.steps at c.loop-a.invariant) in
+    let same : along hs ls P c.args.v lv (a ∷ ks) c.loop-a.rest c.loop-a.left c.loop-a.current ≡ along hs ls P c.args.v lv ks c.loop-a.rest c.loop-a.left c.loop-a.current =
+    elim c.else-left-a-gt0.branch [
+      | else-left-a-gt0-via-then-left-a-gt0+else-self-w w ↦ along_off hs ls P c.args.v lv a ks c.loop-a.rest c.loop-a.left c.loop-a.current w.if-self-w.false
+      | else-left-a-gt0-via-else-left-a-gt0 w ↦ along_shut hs ls P c.args.v lv a ks c.loop-a.rest c.loop-a.left c.loop-a.current w.if-left-a-gt0.false
     ] in
-    record { out = sym c.loop-at.invariant.4 ∙ out; most = omega arith }
+    (tt, tt, i.2.1, i.3, i.4, i.5, i.6, sym same ∙ i.7)
+
+pub returns-clause-out : goal.returns-clause-out
+returns-clause-out t c =
+    let hs = c.args.self.net.head.now in
+    let ls = c.args.self.level.now in
+    let v = c.args.v in
+    let P = pushes hs ls c.args.self.sink c.args.self.top (c.args.depth - 1) in
+    let lv = c.args.self.top - (c.args.depth - 1) in
+    let lim = c.loop-a.invariant.5 in
+    let o : along hs ls P v lv (leavers_left c.loop-a.a-iterator) c.loop-a.rest c.loop-a.left c.loop-a.current ≡ (c.match-next.left, set c.match-next.current v c.match-next.stop, c.match-next.rest) =
+    elim c.match-next.branch [
+      | in-None w ↦
+          along_end hs ls P v lv (leavers_left c.loop-a.a-iterator) c.loop-a.rest c.loop-a.left c.loop-a.current w.in-None.ensures.steps.0
+          ∙ ap (λ (x : List ℕ). (x, set c.loop-a.current v 0, c.loop-a.rest)) (sym w.left-is)
+          ∙ ap (λ (x : List ℕ). (c.match-next.left, set x v 0, c.loop-a.rest)) (sym w.current-is)
+          ∙ ap (λ (x : ℕ). (c.match-next.left, set c.match-next.current v x, c.loop-a.rest)) (sym c.loop-a.invariant.6 ∙ sym w.stop-is)
+          ∙ ap (λ (x : ℕ). (c.match-next.left, set c.match-next.current v c.match-next.stop, x)) (sym w.rest-is)
+      | in-Some+then-left-a-gt0+then-self-w+then-rest-eq0 w ↦
+          let a = w.in-Some.a in
+          let got = w.push-got.result in
+          let rs' = w.push-got.new.left in
+          let cs' = w.push-got.new.current in
+          let less = subst (λ (x : ℕ). got ≤ x) w.min-most.ensures w.push-got.ensures.most in
+          let out = subst (λ (x : ℕ). P (head_of hs a) x c.loop-a.left c.loop-a.current ≡ (rs', cs', x - got)) w.min-most.ensures w.push-got.ensures.out in
+          ap (λ (ks : List ℕ). along hs ls P v lv ks c.loop-a.rest c.loop-a.left c.loop-a.current) w.in-Some.ensures.steps
+          ∙ along_stop hs ls P v lv a (leavers_left c.next.new.self) c.loop-a.rest c.loop-a.left c.loop-a.current rs' cs' got w.if-left-a-gt0.true w.if-self-w.true less out w.if-rest-eq0.true
+          ∙ ap (λ (x : List ℕ). (x, set cs' v (suc a), 0)) (sym w.carry.ensures ∙ sym w.left-is)
+          ∙ ap (λ (x : List ℕ). (c.match-next.left, set x v (suc a), 0)) (sym w.current-is)
+          ∙ ap (λ (x : ℕ). (c.match-next.left, set c.match-next.current v x, 0)) (let e = w.stop-is in let s : suc a ≡ c.match-next.stop = omega (arith, e) in s)
+          ∙ ap (λ (x : ℕ). (c.match-next.left, set c.match-next.current v c.match-next.stop, x)) (sym w.if-rest-eq0.true ∙ sym w.rest-is)
+    ] in
+    let under : c.match-next.rest ≤ c.args.limit =
+    elim c.match-next.branch [
+      | in-None w ↦ let e = w.rest-is in omega (arith, e, lim)
+      | in-Some+then-left-a-gt0+then-self-w+then-rest-eq0 w ↦ let e = w.rest-is in let z = w.if-rest-eq0.true in omega (arith, e, z)
+    ] in
+    let back : c.match-next.rest ≡ c.args.limit - (c.args.limit - c.match-next.rest) = omega (arith, under) in
+    sym c.loop-a.invariant.7 ∙ o ∙ ap (λ (x : ℕ). (c.match-next.left, set c.match-next.current v c.match-next.stop, x)) back

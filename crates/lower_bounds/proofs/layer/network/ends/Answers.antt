@@ -1,35 +1,29 @@
-use Rattle.std.proofs.Common.{◌≡◌, ℕ, ◌<◌, Bool, length, sym, ap, ◌∙◌, ap₂, arith}
-use Rattle.drawing.specs.Drawings.{point, is_rack, is_bar}
-use Rattle.reductions.specs.LowerBounds.{the_one}
-use Rattle.lower_bounds.specs.Parts.{points_only}
-use Rattle.lower_bounds.proofs.Sums.{one_here, one_elsewhere}
+use Rattle.std.proofs.Common.{◌≡◌, ℕ, true, false, sym, ap₂, ◌∙◌, rules, arith}
+use borrow.Author.Tests.{tests}
+use Rattle.std.proofs.lemmas.Iterator.{YieldsList-from_slice, IsFirst-from_position}
+use Rattle.std.proofs.lemmas.Option.{same_Some}
+use Rattle.drawing.specs.Drawings.{no_point, is_rack, is_bar}
+use Rattle.reductions.proofs.Ones.{one}
+use Rattle.lower_bounds.proofs.Sums.{one_found}
 use Rattle.lower_bounds.proofs.layer.network.ends.Goals as goal
-use Rattle.lower_bounds.proofs.layer.network.ends.Goals.{in-Plain, in-Rack, in-Bar}
 
-pub loop-i-preserved : goal.loop-i-preserved
-loop-i-preserved c =
-    let d = points_only c.args.points.now in
-    let n = length c.args.points.now in
-    let i = c.loop-i.i in
-    let lt : i < n = omega arith in
-    let rack : ℕ → Bool = λ v. is_rack (point d v).mark in
-    let bar : ℕ → Bool = λ v. is_bar (point d v).mark in
-    elim c.match-points-i.branch [
-      | in-Plain w ↦
-          let k = w.in-Plain.is in
-          (w.rack-is ∙ c.loop-i.invariant.0 ∙ sym (one_elsewhere i rack (ap is_rack k)), w.bar-is ∙ c.loop-i.invariant.1 ∙ sym (one_elsewhere i bar (ap is_bar k)))
-      | in-Rack w ↦
-          let k = w.in-Rack.is in
-          (w.rack-is ∙ sym (one_here n i rack c.requires.rack lt (ap is_rack k)), w.bar-is ∙ c.loop-i.invariant.1 ∙ sym (one_elsewhere i bar (ap is_bar k)))
-      | in-Bar w ↦
-          let k = w.in-Bar.is in
-          (w.rack-is ∙ c.loop-i.invariant.0 ∙ sym (one_elsewhere i rack (ap is_rack k)), w.bar-is ∙ sym (one_here n i bar c.requires.bar lt (ap is_bar k)))
-    ]
+pub unwrap-rack-requires : goal.unwrap-rack-requires
+unwrap-rack-requires c =
+    let ps = c.args.points.now in
+    let found = one_found no_point (λ p. is_rack p.mark) ps _ c.requires.rack (IsFirst-from_position _ _ _ (λ p. is_rack p.mark ≡ true) (λ p. is_rack p.mark ≡ false) c.position.ensures.ran (YieldsList-from_slice ps (cc)) (λ x q k. search (rules, tests)) (λ x q k. search (rules, tests))) in
+    search rules
+
+pub unwrap-bar-requires : goal.unwrap-bar-requires
+unwrap-bar-requires c =
+    let ps = c.args.points.now in
+    let found = one_found no_point (λ p. is_bar p.mark) ps _ c.requires.bar (IsFirst-from_position _ _ _ (λ p. is_bar p.mark ≡ true) (λ p. is_bar p.mark ≡ false) c.position-2.ensures.ran (YieldsList-from_slice ps (cc)) (λ x q k. search (rules, tests)) (λ x q k. search (rules, tests))) in
+    search rules
 
 pub returns : goal.returns
 returns c =
-    let d = points_only c.args.points.now in
-    let e : c.loop-i.i ≡ length c.args.points.now = omega arith in
-    ap₂ (λ x y. let pair : ℕ × ℕ = (x, y) in pair)
-    (c.loop-i.invariant.0 ∙ ap (λ n. the_one n (λ v. is_rack (point d v).mark)) e)
-    (c.loop-i.invariant.1 ∙ ap (λ n. the_one n (λ v. is_bar (point d v).mark)) e)
+    let ps = c.args.points.now in
+    let found = one_found no_point (λ p. is_rack p.mark) ps _ c.requires.rack (IsFirst-from_position _ _ _ (λ p. is_rack p.mark ≡ true) (λ p. is_rack p.mark ≡ false) c.position.ensures.ran (YieldsList-from_slice ps (cc)) (λ x q k. search (rules, tests)) (λ x q k. search (rules, tests))) in
+    let rack = same_Some _ _ (sym c.unwrap-rack.ensures ∙ found) in
+    let found₂ = one_found no_point (λ p. is_bar p.mark) ps _ c.requires.bar (IsFirst-from_position _ _ _ (λ p. is_bar p.mark ≡ true) (λ p. is_bar p.mark ≡ false) c.position-2.ensures.ran (YieldsList-from_slice ps (cc)) (λ x q k. search (rules, tests)) (λ x q k. search (rules, tests))) in
+    let bar = same_Some _ _ (sym c.unwrap-bar.ensures ∙ found₂) in
+    ap₂ (λ x y. let pair : ℕ × ℕ = (x, y) in pair) (omega (arith, rack, (one _ _ c.requires.rack).inside)) (omega (arith, bar, (one _ _ c.requires.bar).inside))

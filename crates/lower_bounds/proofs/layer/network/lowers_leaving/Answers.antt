@@ -1,25 +1,24 @@
-use Rattle.std.proofs.Common.{ℕ, suc, ◌+◌, ◌≤◌, eqb, length, arith, rules}
+use Rattle.std.proofs.Common.{ℕ, eqb, sym, ◌∙◌, rules}
+use Rattle.std.proofs.lemmas.Iterator.{YieldsList-from_slice, YieldsList-from_map}
+use Rattle.std.proofs.lemmas.Iterator.Consumers.{sum_by_from_yields_List, fits_by_from_yields_list}
+use Rattle.drawing.specs.declared.Run.{Run}
 use Rattle.drawing.specs.Counts.{only}
-use Rattle.drawing.specs.Drawings.{run}
+use Rattle.drawing.specs.Drawings.{no_run}
+use Rattle.drawing.proofs.Lists.{sum_items}
 use Rattle.drawing.proofs.Sums.{only_le}
-use Rattle.reductions.proofs.Steps.{sum_next}
-use Rattle.lower_bounds.specs.Parts.{runs_only}
-use Rattle.lower_bounds.proofs.Sums.{next_fits}
+use Rattle.reductions.proofs.Listed.{sum_fits}
 use Rattle.lower_bounds.proofs.layer.network.lowers_leaving.Goals as goal
 
-pub overflow_add-sum : goal.overflow_add-sum
-overflow_add-sum c =
-    let d = runs_only c.args.runs.now in
-    let v = c.args.v in
-    let i = c.loop-r.r-index in
-    let f : ℕ → ℕ = λ k. only (eqb (run d k).tail v) (run d k).lower in
-    let fits = next_fits (length c.args.runs.now) i 600000000 f (λ k. (run d k).lower) (λ k. only_le (eqb (run d k).tail v) (run d k).lower) c.loop-r-test.true c.requires in
-    let most : c.loop-r.sum + c.lower_leaving-sum.result ≤ 600000000 = omega (arith, fits, c.lower_leaving-sum.ensures, only_le (eqb (run d (suc i)).tail v) (run d (suc i)).lower) in
-    search rules
+pub sum-requires-clause-fits : goal.sum-requires-clause-fits
+sum-requires-clause-fits c =
+    let rs = c.args.runs.now in
+    let h : Run → ℕ = λ r. only (eqb r.tail c.args.v) r.lower in
+    fits_by_from_yields_list h rs _ _ (YieldsList-from_map _ h (YieldsList-from_slice rs (cc)) c.map.ensures.closure (λ x r q k. search rules))
+    (sum_fits h (λ r. r.lower) rs (λ r. only_le (eqb r.tail c.args.v) r.lower) c.requires)
 
-pub loop-r-preserved : goal.loop-r-preserved
-loop-r-preserved c =
-    let d = runs_only c.args.runs.now in
-    let v = c.args.v in
-    let f : ℕ → ℕ = λ k. only (eqb (run d k).tail v) (run d k).lower in
-    omega (arith, sum_next f c.loop-r.r-index, c.lower_leaving-sum.ensures)
+pub returns : goal.returns
+returns c =
+    let rs = c.args.runs.now in
+    let h : Run → ℕ = λ r. only (eqb r.tail c.args.v) r.lower in
+    sum_by_from_yields_List h rs _ _ c.sum.ensures.ran (YieldsList-from_map _ h (YieldsList-from_slice rs (cc)) c.map.ensures.closure (λ x r q k. search rules))
+    ∙ sym (sum_items no_run rs h)

@@ -1,55 +1,55 @@
-use Rattle.std.proofs.Common.{◌≡◌, ℕ, ◌+◌, ◌-◌, ◌*◌, ◌%◌, ◌<◌, List, length, get_or, sym, refl, ap, ◌∙◌, subst, arith}
+use Rattle.std.proofs.Common.{◌≡◌, ℕ, ◌+◌, ◌<◌, List, length, get_or, ap, ◌∙◌, inl, inr, arith, get_or-set_other, get_or-set_same}
+use Rattle.std.proofs.lemmas.Bool.{cases_eq}
 use Rattle.std.proofs.lemmas.List.FromFn.{fill_by_all}
-use Rattle.residual.specs.Net.{mate_of, Chained}
+use Rattle.residual.specs.Net.{mate_of}
 use Rattle.residual.specs.Search.{levels}
-use Rattle.residual.specs.Laying.{Laid}
-use Rattle.residual.proofs.Moves.{mate_odd}
-use Rattle.residual.proofs.Pairs.{each_arc, mate_double}
-use Rattle.residual.proofs.Arcs.{laid_more}
+use Rattle.residual.proofs.Moves.{mate_within}
 use Rattle.preflow.specs.Turns.{flipped}
 use Rattle.preflow.proofs.between.Between.aim.Goals as goal
 
-flipped_is : (rs bs : List ℕ) (m : ℕ) → length rs ≡ 2 * m → length bs ≡ 2 * m → Laid (λ k. get_or rs (2 * k + 1) 0) (λ k. get_or rs (2 * k) 0) m bs → bs ≡ flipped rs
+flipped_is : (rs bs : List ℕ) → length bs ≡ length rs → ((a : ℕ) → a < length rs → get_or bs a 0 ≡ get_or rs (mate_of a) 0) → bs ≡ flipped rs
 unfolding flipped
-flipped_is rs bs m lr lb l =
-    fill_by_all (λ a. get_or rs (mate_of a) 0) bs (length rs) 0 (lb ∙ sym lr)
-    (λ a h. each_arc (λ b. get_or bs b 0 ≡ get_or rs (mate_of b) 0) m
-    (λ k q. l.forth k q ∙ sym (ap (λ (x : ℕ). get_or rs x 0) (mate_double k)))
-    (λ k q.
-    let odd : (2 * k + 1) % 2 ≡ 1 = omega arith in
-    let back : 2 * k + 1 - 1 ≡ 2 * k = omega arith in
-    l.back k q ∙ sym (ap (λ (x : ℕ). get_or rs x 0) (mate_odd (2 * k + 1) odd ∙ back)))
-    a (omega (arith, h, lr)))
+flipped_is rs bs l h = fill_by_all (λ a. get_or rs (mate_of a) 0) bs (length rs) 0 l h
 
-pub loop-k-preserved : goal.loop-k-preserved
-loop-k-preserved c =
+-- the mate of an arc is an arc
+pub offset_bounds-left-mate : goal.offset_bounds-left-mate
+offset_bounds-left-mate c =
+    let net = c.args.self.net.chained in
+    let even = net.even in
+    let short = net.short in
+    let m = mate_within c.loop-a.a (length c.args.self.net.head.now) even (omega arith) in
+    let e = c.mate.ensures in
+    omega arith
+
+pub bounds-left-mate : goal.bounds-left-mate
+bounds-left-mate c =
+    let net = c.args.self.net.chained in
+    let even = net.even in
+    let m = mate_within c.loop-a.a (length c.args.self.net.head.now) even (omega arith) in
+    let e = c.mate.ensures in
+    omega arith
+
+pub loop-a-init : goal.loop-a-init
+loop-a-init c = λ b h. absurd (let z : ⊥ = omega arith in z)
+
+pub loop-a-preserved : goal.loop-a-preserved
+loop-a-preserved c =
+    let a = c.loop-a.a in
     let rs = c.args.left.now in
-    let i = c.loop-k.k in
-    let a : 2 * i + 1 < length c.loop-k.back = omega arith in
-    laid_more (λ k. get_or rs (2 * k + 1) 0) (λ k. get_or rs (2 * k) 0) i _ _ c.loop-k.back a refl refl c.loop-k.invariant
-
-pub search-requires : goal.search-requires
-search-requires c =
-    let ends = c.requires.ends in
-    let long : length c.args.level.now ≡ c.args.self.points + 1 = omega arith in
-    let s = ends.source_most in
-    let t = ends.sink_most in
-    record {
-      net = (subst (Chained c.args.self.head.now c.args.self.next.now) (sym long) c.requires.net.0, c.requires.net.1);
-      sizes = (omega arith, omega arith);
-      ends = (omega arith, omega arith);
-    }
+    let bs = c.loop-a.back in
+    let e = ap (λ (x : ℕ). get_or rs x 0) c.mate.ensures in
+    λ b h.
+    elim (cases_eq b a) [
+      | inl q ↦ rw q (get_or-set_same bs a (get_or rs c.mate.result 0) 0 (omega arith) ∙ e)
+      | inr n ↦ get_or-set_other bs a b (get_or rs c.mate.result 0) 0 n ∙ c.loop-a.invariant b (omega arith)
+    ]
 
 pub returns : goal.returns
 returns c =
-    let bs = c.loop-k.back in
+    let bs = c.loop-a.back in
     let rs = c.args.left.now in
-    let even = c.requires.net.0.even in
-    let m = c.loop-k.k in
-    let lr : length rs ≡ 2 * m = omega arith in
-    let lb : length bs ≡ 2 * m = omega arith in
-    let f : bs ≡ flipped rs = flipped_is rs bs m lr lb c.loop-k.invariant in
+    let f : bs ≡ flipped rs = flipped_is rs bs (omega arith) (λ a h. c.loop-a.invariant a (omega arith)) in
     let long : length c.args.level.now ≡ c.args.self.points + 1 = omega arith in
     c.search.ensures
-    ∙ ap (λ (n : ℕ). levels c.args.self.head.now bs n c.args.self.sink c.args.self.source) long
-    ∙ ap (λ (x : List ℕ). levels c.args.self.head.now x (c.args.self.points + 1) c.args.self.sink c.args.self.source) f
+    ∙ ap (λ (n : ℕ). levels c.args.self.net.head.now bs n c.args.self.sink c.args.self.source) long
+    ∙ ap (λ (x : List ℕ). levels c.args.self.net.head.now x (c.args.self.points + 1) c.args.self.sink c.args.self.source) f

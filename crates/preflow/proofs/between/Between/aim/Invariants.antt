@@ -1,6 +1,6 @@
-use Rattle.std.proofs.Common.{◌+◌, ◌*◌, get_or}
-use Rattle.residual.specs.Laying.{Laid}
+use Rattle.std.proofs.Common.{◌≡◌, ℕ, ◌<◌, get_or}
+use Rattle.residual.specs.Net.{mate_of}
 use Rattle.preflow.proofs.between.Between.aim.Given as goal
 
-abbrev pub invariant-loop-k : goal.invariant-loop-k
-invariant-loop-k l = Laid (λ k. get_or l.left (2 * k + 1) 0) (λ k. get_or l.left (2 * k) 0) l.k l.back
+abbrev pub invariant-loop-a : goal.invariant-loop-a
+invariant-loop-a l = (b : ℕ) → b < l.a → get_or l.back b 0 ≡ get_or l.left (mate_of b) 0

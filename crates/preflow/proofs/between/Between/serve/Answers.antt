@@ -10,7 +10,7 @@ use Rattle.preflow.proofs.between.Between.serve.Goals as goal
 -- after the pushes there is room for v
 pub push_back_reserved-requires : goal.push_back_reserved-requires
 push_back_reserved-requires c =
-    let hs = c.args.self.head.now in
+    let hs = c.args.self.net.head.now in
     let n = c.args.self.points in
     let v = c.args.v in
     let low = c.lowest-low.result in
@@ -24,9 +24,9 @@ push_back_reserved-requires c =
     let lr : length rs ≡ length hs = omega arith in
     let le : length es ≡ n + 1 = omega arith in
     let o : Out = (c.drain.new.left, c.drain.new.excess, deque_items c.drain.new.queue) in
-    let l0 = scans_lined hs ds n v low c.args.self.source c.args.self.sink c.requires.net.1.1 vin nv (length hs) rs es qs lr le (omega arith) c.requires.here.1.1.1 c.requires.queue.0 in
+    let l0 = scans_lined hs ds n v low c.args.self.source c.args.self.sink c.args.self.arcs vin nv (length hs) rs es qs lr le (omega arith) c.requires.here.1.1 c.requires.queue.0 in
     let l = subst (λ (y : Out). Lined c.args.self.source c.args.self.sink v y.1 y.2) c.drain.ensures.out l0 in
-    let k0 = (scans_kept hs ds n v low c.args.self.source c.args.self.sink c.requires.net.1.1 vin nv (length hs) rs es qs lr le (omega arith)).points in
+    let k0 = (scans_kept hs ds n v low c.args.self.source c.args.self.sink c.args.self.arcs vin nv (length hs) rs es qs lr le (omega arith)).points in
     let k : length c.drain.new.excess ≡ length es = subst (λ (y : Out). length y.1 ≡ length es) c.drain.ensures.out k0 in
     let s = line_short c.args.self.source c.args.self.sink v c.drain.new.excess (deque_items c.drain.new.queue) l n (k ∙ le) v vin.1 (line_served c.args.self.source c.args.self.sink v c.drain.new.excess (deque_items c.drain.new.queue) l) in
     let q = c.drain.new.queue.ok.0 in
@@ -36,7 +36,7 @@ push_back_reserved-requires c =
 
 pub returns-then-excess-v-gt0 : goal.returns-then-excess-v-gt0
 returns-then-excess-v-gt0 c =
-    let hs = c.args.self.head.now in
+    let hs = c.args.self.net.head.now in
     let v = c.args.v in
     let low = c.lowest-low.result in
     let is = c.lowest-low.ensures.out in
@@ -51,7 +51,7 @@ returns-then-excess-v-gt0 c =
 
 pub returns-else-excess-v-gt0 : goal.returns-else-excess-v-gt0
 returns-else-excess-v-gt0 c =
-    let hs = c.args.self.head.now in
+    let hs = c.args.self.net.head.now in
     let v = c.args.v in
     let low = c.lowest-low.result in
     let is = c.lowest-low.ensures.out in

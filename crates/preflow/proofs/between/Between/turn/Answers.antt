@@ -6,7 +6,7 @@ use Rattle.preflow.proofs.between.Between.turn.Goals.{then-k-eq127, else-k-eq127
 
 pub returns : goal.returns
 returns c =
-    let hs = c.args.self.head.now in
+    let hs = c.args.self.net.head.now in
     let n = c.args.self.points in
     let rs = c.args.left.now in
     let ds = c.args.height.now in

@@ -1,9 +1,0 @@
-use Rattle.std.proofs.Common.{rules}
-use Rattle.drawing.specs.Counts.{nth}
-use Rattle.drawing.specs.Drawings.{no_run}
-use Rattle.checkers.specs.Told.{run_deducts}
-use Rattle.checkers.proofs.Loops.{sum_more}
-use Rattle.checkers.proofs.labels.forced.Goals as goal
-
-pub loop-r-preserved : goal.loop-r-preserved
-loop-r-preserved c = (sum_more (λ k. run_deducts c.args.labels.now (nth c.args.runs.now k no_run)) _ _ _ (search rules) c.loop-r.invariant.0, search rules)

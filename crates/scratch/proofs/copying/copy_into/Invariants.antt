@@ -1,5 +1,0 @@
-use Rattle.std.proofs.Common.{◌≡◌, take, vec_items, vec_len, vec_capacity}
-use Rattle.scratch.proofs.copying.copy_into.Given as goal
-
-abbrev pub invariant-loop-i : goal.invariant-loop-i
-invariant-loop-i g l = (vec_items l.out ≡ take l.i l.from) × (vec_len l.out ≡ l.i) × (vec_capacity l.out ≡ vec_capacity l.initial.out)
