@@ -7,7 +7,7 @@ ghost use Rattle.blocking.specs.Model.{dinic_answer};
 use crate::phases::max_flow;
 use drawing::{Drawing, Label, Record};
 use filing::{file, terminals};
-use residual::lay;
+use residual::Net;
 
 // Writes the answer, in scratch memory with a place for each arc (`head`, `next`, `left`) and a place for each point and
 // for 0 (`first`, `level`, `current`). They are fronts of the solver's own memory, which has the largest size and is lent anew
@@ -28,7 +28,7 @@ pub fn plan(
     requires points { (length first.old ≡ vec_len drawing.now.points + 1) × ((length level.old ≡ vec_len drawing.now.points + 1) × (length current.old ≡ vec_len drawing.now.points + 1)) }
     ensures { contents out.new ≡ filed (dinic_answer (network drawing.now)) }
 {
-    let net = lay(drawing.runs.as_slice(), head, next, first, left);
+    let net = Net::laid(drawing.runs.as_slice(), head, next, first, left);
     let (rack, bar) = terminals(drawing.points.as_slice());
     let total = max_flow(net, left, level, current, rack.unwrap(), bar.unwrap());
     file(drawing, left, level, Label::Near, Label::Far, total, out);

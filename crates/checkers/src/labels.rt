@@ -25,7 +25,14 @@ impl<'a> Labelled<'a> {
         ensures decides { is_some result ≡ (is_admissible (network d.now) && is_labelling (network d.now) labels.now) }
         ensures same { IfSome result (λ l. (seen l.drawing ≡ network d.now) × (l.labels.now ≡ labels.now)) }
     {
-        let drawing = Admitted::of(d)?;
+        Labelled::over(Admitted::of(d)?, labels)
+    }
+
+    // The same of a drawing that was tested already.
+    pub(crate) fn over(drawing: Admitted<'a>, labels: &'a [Label]) -> Option<Self>
+        ensures decides { is_some result ≡ is_labelling (seen drawing.entry) labels.now }
+        ensures same { IfSome result (λ l. (seen l.drawing ≡ seen drawing.entry) × (l.labels.now ≡ labels.now)) }
+    {
         // An `if`: its branch knows what was tested, as in `Admitted::of`.
         if is_labelling(drawing, labels) {
             Some(Labelled { drawing, labels })
@@ -34,12 +41,12 @@ impl<'a> Labelled<'a> {
         }
     }
 
-    // The label of the point v; a stand-in where there is none.
+    // The label of the point v; a stand-in where there is none. 0 wraps to a place that no list has.
     fn label(&self, v: usize) -> Label
         ensures { result ≡ label_of self.now.labels.now v }
     {
-        v.checked_sub(1)
-            .and_then(|k| self.labels.get(k))
+        self.labels
+            .get(v.wrapping_sub(1))
             .copied()
             .unwrap_or(Label::Near)
     }

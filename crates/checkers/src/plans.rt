@@ -33,7 +33,19 @@ impl<'a> Planned<'a> {
         ensures decides { is_some result ≡ (is_admissible (network d.now) && is_shaped (network d.now) (plan_of flows.now supplies.now deliveries.now)) }
         ensures same { IfSome result (λ p. (seen p.drawing ≡ network d.now) × (planned p ≡ plan_of flows.now supplies.now deliveries.now)) }
     {
-        let drawing = Admitted::of(d)?;
+        Planned::over(Admitted::of(d)?, flows, supplies, deliveries)
+    }
+
+    // The same of a drawing that was tested already.
+    pub(crate) fn over(
+        drawing: Admitted<'a>,
+        flows: &'a [i32],
+        supplies: &'a [u32],
+        deliveries: &'a [u32],
+    ) -> Option<Self>
+        ensures decides { is_some result ≡ is_shaped (seen drawing.entry) (plan_of flows.now supplies.now deliveries.now) }
+        ensures same { IfSome result (λ p. (seen p.drawing ≡ seen drawing.entry) × (planned p ≡ plan_of flows.now supplies.now deliveries.now)) }
+    {
         // An `if`: its branch knows what was tested, as in `Admitted::of`.
         if flows.len() == drawing.runs.len()
             && supplies.len() == drawing.points.len()

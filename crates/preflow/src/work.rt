@@ -9,7 +9,7 @@ use crate::between::Between;
 use crate::turns::max_flow;
 use drawing::{Drawing, Label, Record};
 use filing::{file, terminals};
-use residual::lay;
+use residual::Net;
 use std::collections::VecDeque;
 
 // Writes the answer, in scratch memory with a place for each arc (`head`, `next`, `left`, `back`), a place for each point
@@ -36,7 +36,7 @@ pub fn plan(
     ensures answer { contents out.new ≡ filed (relabel_answer (network drawing.now)) }
     ensures capacity { deque_capacity queue.new ≡ deque_capacity queue.old }
 {
-    let net = lay(drawing.runs.as_slice(), head, next, first, left);
+    let net = Net::laid(drawing.runs.as_slice(), head, next, first, left);
     let (rack, bar) = terminals(drawing.points.as_slice());
     let between = Between {
         net,

@@ -45,21 +45,35 @@ fn link(head: &[u32], next: &mut [u32], first: &mut [u32])
     }
 }
 
-// The network of the runs, laid in these slices; `left` has what each arc can carry where no run has a flow.
-pub fn lay<'a>(
-    runs: &[Run],
-    head: &'a mut [u32],
-    next: &'a mut [u32],
-    first: &'a mut [u32],
-    left: &mut [u32],
-) -> Net<'a>
+// The arcs of the runs, and their chains.
+pub fn lay(runs: &[Run], head: &mut [u32], next: &mut [u32], first: &mut [u32], left: &mut [u32])
     requires ends { Ends runs.now (length first.old) }
     requires sizes { (length runs.now ≤ 1024) × ((length first.old ≤ 129) × ((length head.old ≡ 2 * length runs.now) × ((length next.old ≡ 2 * length runs.now) × (length left.old ≡ 2 * length runs.now)))) }
-    ensures heads { result.head.now ≡ heads_of runs.now }
-    ensures points { length result.first.now ≡ length first.old }
+    ensures heads { head.new ≡ heads_of runs.now }
     ensures room { left.new ≡ room_of runs.now }
+    ensures chained { Chained head.new next.new (length first.old) }
+    ensures started { Started head.new first.new }
 {
     pair(runs, head, left);
     link(head, next, first);
-    Net { head, next, first }
+}
+
+impl<'a> Net<'a> {
+    // The network of the runs, laid in these slices; `left` has what each arc can carry where no run has a flow.
+    pub fn laid(
+        runs: &[Run],
+        head: &'a mut [u32],
+        next: &'a mut [u32],
+        first: &'a mut [u32],
+        left: &mut [u32],
+    ) -> Net<'a>
+        requires ends { Ends runs.now (length first.old) }
+        requires sizes { (length runs.now ≤ 1024) × ((length first.old ≤ 129) × ((length head.old ≡ 2 * length runs.now) × ((length next.old ≡ 2 * length runs.now) × (length left.old ≡ 2 * length runs.now)))) }
+        ensures heads { result.head.now ≡ heads_of runs.now }
+        ensures points { length result.first.now ≡ length first.old }
+        ensures room { left.new ≡ room_of runs.now }
+    {
+        lay(runs, head, next, first, left);
+        Net { head, next, first }
+    }
 }

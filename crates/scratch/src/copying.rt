@@ -25,13 +25,16 @@ where
     }
 }
 
-// What from holds, as far as the room of out goes.
+// What from holds, as far as the room of out goes. A loop over what fits, and no `push_within`, which tests the room at each item.
 pub fn copy_into<T: Copy + Drop>(from: &[T], out: &mut Vec<T>)
     ensures items { out.new.items ≡ take (vec_capacity out.old) from.now }
     ensures capacity { vec_capacity out.new ≡ vec_capacity out.old }
 {
     out.clear();
-    push_within(from.iter().copied(), out);
+    let n = from.len().min(out.capacity());
+    for item in &from[..n] {
+        out.push_reserved(*item);
+    }
 }
 
 // A shortage with the labels that stand in the record.

@@ -1,9 +1,6 @@
 // The standard stack: terminals over links over limits over lower bounds over a bottom solver.
 #![tactic(auto)]
 
-#[cfg(test)]
-mod both;
-
 ghost use Rattle.std.specs.Prelude.{◌≡◌, IfOk};
 ghost use Rattle.residual.specs.Plain.{plain_statements};
 ghost use Rattle.reductions.specs.Limits.{limits_states};

@@ -11,8 +11,8 @@ use Rattle.blocking.proofs.Turns.{sent_bounded}
 use Rattle.blocking.proofs.Ending.{dinic_is}
 use Rattle.blocking.proofs.work.plan.Goals as goal
 
-pub lay-net-requires : goal.lay-net-requires
-lay-net-requires c =
+pub laid-net-requires : goal.laid-net-requires
+laid-net-requires c =
     let d = network c.args.drawing.now in
     let p : Plain d = c.requires.plain in
     let few = p.few_points in
@@ -39,15 +39,15 @@ max_flow-total-requires c =
     let p : Plain d = c.requires.plain in
     let few = p.few_points in
     let runs = c.as_slice.ensures.value in
-    let heads : c.lay-net.result.head.now ≡ heads_of d.runs = c.lay-net.ensures.heads ∙ ap heads_of runs in
-    let room : c.lay-net.new.left ≡ room_of d.runs = c.lay-net.ensures.room ∙ ap room_of runs in
+    let heads : c.laid-net.result.head.now ≡ heads_of d.runs = c.laid-net.ensures.heads ∙ ap heads_of runs in
+    let room : c.laid-net.new.left ≡ room_of d.runs = c.laid-net.ensures.room ∙ ap room_of runs in
     let rv = c.args.drawing.now.runs.ok.0 in
     let pv = c.args.drawing.now.points.ok.0 in
     let r : c.unwrap.result ≡ rack_of d = rack_is d p c.as_slice-2.result.now c.as_slice-2.ensures.value c.terminals-rack.result.0 c.terminals-rack.ensures.rack c.unwrap.result c.unwrap.ensures in
     let b : c.unwrap-2.result ≡ bar_of d = bar_is d p c.as_slice-2.result.now c.as_slice-2.ensures.value c.terminals-rack.result.1 c.terminals-rack.ensures.bar c.unwrap-2.result c.unwrap-2.ensures in
     let rin = (rack d p).within in
     let bin = (bar d p).within in
-    let points = c.lay-net.ensures.points in
+    let points = c.laid-net.ensures.points in
     let long : length c.args.first.now ≡ length c.args.level.now = omega arith in
     let hl = ap length heads ∙ length_heads d.runs in
     let rl = ap length room ∙ length_room d.runs in
@@ -55,8 +55,8 @@ max_flow-total-requires c =
       sizes = (omega (arith, points, long), (omega (arith, points), (omega arith, omega (arith, points, few))));
       ends = (omega arith, (omega arith, λ e. apart d p (sym r ∙ e ∙ b)));
       sound = (
-        bounded_at d p c.lay-net.new.left room,
-        outs_at d p (λ u. eqb u c.unwrap.result) c.lay-net.result.head.now c.lay-net.new.left heads room,
+        bounded_at d p c.laid-net.new.left room,
+        outs_at d p (λ u. eqb u c.unwrap.result) c.laid-net.result.head.now c.laid-net.new.left heads room,
       );
     }
 
@@ -69,9 +69,9 @@ file-requires c =
     let rv = c.args.drawing.now.runs.ok.0 in
     let pv = c.args.drawing.now.points.ok.0 in
     let runs = c.as_slice.ensures.value in
-    let room : c.lay-net.new.left ≡ room_of d.runs = c.lay-net.ensures.room ∙ ap room_of runs in
+    let room : c.laid-net.new.left ≡ room_of d.runs = c.laid-net.ensures.room ∙ ap room_of runs in
     let sent = c.max_flow-total.ensures.ended.sent in
-    let bd = sent_bounded c.lay-net.result.head.now c.unwrap.result c.unwrap-2.result c.max_flow-total.result c.lay-net.new.left c.max_flow-total.new.left sent (bounded_at d p c.lay-net.new.left room) in
+    let bd = sent_bounded c.laid-net.result.head.now c.unwrap.result c.unwrap-2.result c.max_flow-total.result c.laid-net.new.left c.max_flow-total.new.left sent (bounded_at d p c.laid-net.new.left room) in
     record {
       sizes = (omega arith, (omega arith, (omega arith, omega arith)));
       most = λ a h. let q = bd.bound a h in omega arith;
@@ -83,12 +83,12 @@ returns c =
     let p : Plain d = c.requires.plain in
     let pv = c.args.drawing.now.points.ok.0 in
     let runs = c.as_slice.ensures.value in
-    let heads : c.lay-net.result.head.now ≡ heads_of d.runs = c.lay-net.ensures.heads ∙ ap heads_of runs in
-    let room : c.lay-net.new.left ≡ room_of d.runs = c.lay-net.ensures.room ∙ ap room_of runs in
+    let heads : c.laid-net.result.head.now ≡ heads_of d.runs = c.laid-net.ensures.heads ∙ ap heads_of runs in
+    let room : c.laid-net.new.left ≡ room_of d.runs = c.laid-net.ensures.room ∙ ap room_of runs in
     let r : c.unwrap.result ≡ rack_of d = rack_is d p c.as_slice-2.result.now c.as_slice-2.ensures.value c.terminals-rack.result.0 c.terminals-rack.ensures.rack c.unwrap.result c.unwrap.ensures in
     let b : c.unwrap-2.result ≡ bar_of d = bar_is d p c.as_slice-2.result.now c.as_slice-2.ensures.value c.terminals-rack.result.1 c.terminals-rack.ensures.bar c.unwrap-2.result c.unwrap-2.ensures in
-    let points = c.lay-net.ensures.points in
-    let long : length c.lay-net.result.first.now ≡ point_count d + 1 = omega (arith, points, pv) in
+    let points = c.laid-net.ensures.points in
+    let long : length c.laid-net.result.first.now ≡ point_count d + 1 = omega (arith, points, pv) in
     c.file.ensures
-    ∙ ap filed (dinic_is d c.lay-net.result.head.now c.lay-net.result.first.now c.lay-net.new.left c.args.level.now c.unwrap.result c.unwrap-2.result
-    (c.max_flow-total.new.left, c.max_flow-total.new.level, c.max_flow-total.result) heads c.lay-net.result.started long room r b c.max_flow-total.ensures.out)
+    ∙ ap filed (dinic_is d c.laid-net.result.head.now c.laid-net.result.first.now c.laid-net.new.left c.args.level.now c.unwrap.result c.unwrap-2.result
+    (c.max_flow-total.new.left, c.max_flow-total.new.level, c.max_flow-total.result) heads c.laid-net.result.started long room r b c.max_flow-total.ensures.out)

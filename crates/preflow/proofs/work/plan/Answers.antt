@@ -10,8 +10,8 @@ use Rattle.preflow.proofs.Ending.{arcs, ends, final_bounded, relabel_is}
 use Rattle.filing.proofs.Ends.{rack_some, rack_is, bar_some, bar_is}
 use Rattle.preflow.proofs.work.plan.Goals as goal
 
-pub lay-net-requires : goal.lay-net-requires
-lay-net-requires c =
+pub laid-net-requires : goal.laid-net-requires
+laid-net-requires c =
     let d = network c.args.drawing.now in
     let p : Plain d = c.requires.plain in
     let few = p.few_points in
@@ -36,15 +36,15 @@ pub invariant_of-between : goal.invariant_of-between
 invariant_of-between c =
     let d = network c.args.drawing.now in
     let p : Plain d = c.requires.plain in
-    let hs = c.lay-net.result.head.now in
+    let hs = c.laid-net.result.head.now in
     let few = p.few_points in
     let pv = c.args.drawing.now.points.ok.0 in
-    let heads : hs ≡ heads_of d.runs = c.lay-net.ensures.heads ∙ ap heads_of c.as_slice.ensures.value in
+    let heads : hs ≡ heads_of d.runs = c.laid-net.ensures.heads ∙ ap heads_of c.as_slice.ensures.value in
     let n : c.len.result ≡ point_count d = c.len.ensures ∙ pv in
     let r : c.unwrap.result ≡ rack_of d = rack_is d p c.as_slice-2.result.now c.as_slice-2.ensures.value c.terminals-rack.result.0 c.terminals-rack.ensures.rack c.unwrap.result c.unwrap.ensures in
     let b : c.unwrap-2.result ≡ bar_of d = bar_is d p c.as_slice-2.result.now c.as_slice-2.ensures.value c.terminals-rack.result.1 c.terminals-rack.ensures.bar c.unwrap-2.result c.unwrap-2.ensures in
     record {
-      counted = omega (arith, c.lay-net.ensures.points, c.requires.points.0, n, pv);
+      counted = omega (arith, c.laid-net.ensures.points, c.requires.points.0, n, pv);
       few = omega (arith, n, few);
       arcs = subst (λ (m : ℕ). Arcs hs m) (sym n) (subst (λ (xs : List ℕ). Arcs xs (point_count d)) (sym heads) (arcs d p));
       ends = subst (λ (m : ℕ). Apart m c.unwrap.result c.unwrap-2.result) (sym n) (subst (λ (x : ℕ). Apart (point_count d) x c.unwrap-2.result) (sym r) (subst (Apart (point_count d) (rack_of d)) (sym b) (ends d p)));
@@ -56,8 +56,8 @@ max_flow-total-requires c =
     let p : Plain d = c.requires.plain in
     let few = p.few_points in
     let runs = c.as_slice.ensures.value in
-    let heads : c.lay-net.result.head.now ≡ heads_of d.runs = c.lay-net.ensures.heads ∙ ap heads_of runs in
-    let room : c.lay-net.new.left ≡ room_of d.runs = c.lay-net.ensures.room ∙ ap room_of runs in
+    let heads : c.laid-net.result.head.now ≡ heads_of d.runs = c.laid-net.ensures.heads ∙ ap heads_of runs in
+    let room : c.laid-net.new.left ≡ room_of d.runs = c.laid-net.ensures.room ∙ ap room_of runs in
     let rv = c.args.drawing.now.runs.ok.0 in
     let pv = c.args.drawing.now.points.ok.0 in
     let n : c.len.result ≡ point_count d = c.len.ensures ∙ pv in
@@ -76,8 +76,8 @@ max_flow-total-requires c =
       points = (omega (arith, level, n, pv), (omega (arith, excess, n, pv), omega (arith, height, n, pv)));
       room = omega (arith, free, n, pv);
       sound = (
-        bounded_at d p c.lay-net.new.left room,
-        outs_at d p (λ u. eqb u c.unwrap.result) c.lay-net.result.head.now c.lay-net.new.left heads room,
+        bounded_at d p c.laid-net.new.left room,
+        outs_at d p (λ u. eqb u c.unwrap.result) c.laid-net.result.head.now c.laid-net.new.left heads room,
       );
     }
 
@@ -90,19 +90,19 @@ file-requires c =
     let rv = c.args.drawing.now.runs.ok.0 in
     let pv = c.args.drawing.now.points.ok.0 in
     let runs = c.as_slice.ensures.value in
-    let heads : c.lay-net.result.head.now ≡ heads_of d.runs = c.lay-net.ensures.heads ∙ ap heads_of runs in
-    let room : c.lay-net.new.left ≡ room_of d.runs = c.lay-net.ensures.room ∙ ap room_of runs in
+    let heads : c.laid-net.result.head.now ≡ heads_of d.runs = c.laid-net.ensures.heads ∙ ap heads_of runs in
+    let room : c.laid-net.new.left ≡ room_of d.runs = c.laid-net.ensures.room ∙ ap room_of runs in
     let n : c.len.result ≡ point_count d = c.len.ensures ∙ pv in
     let r : c.unwrap.result ≡ rack_of d = rack_is d p c.as_slice-2.result.now c.as_slice-2.ensures.value c.terminals-rack.result.0 c.terminals-rack.ensures.rack c.unwrap.result c.unwrap.ensures in
     let b : c.unwrap-2.result ≡ bar_of d = bar_is d p c.as_slice-2.result.now c.as_slice-2.ensures.value c.terminals-rack.result.1 c.terminals-rack.ensures.bar c.unwrap-2.result c.unwrap-2.ensures in
     let left = c.max_flow-total.auto.left in
-    let laid = c.lay-net.auto.left in
+    let laid = c.laid-net.auto.left in
     let given = c.requires.arcs.1.1.0 in
     let level = c.max_flow-total.auto.level in
     let levels = c.requires.points.1.0 in
     record {
       sizes = (omega (arith, few, pv), (omega (arith, few_runs, rv), (omega (arith, left, laid, given), omega (arith, level, levels))));
-      most = final_bounded d p c.lay-net.result.head.now c.lay-net.new.left c.max_flow-total.new.left c.len.result c.unwrap.result c.unwrap-2.result heads room n r b c.max_flow-total.ensures.left;
+      most = final_bounded d p c.laid-net.result.head.now c.laid-net.new.left c.max_flow-total.new.left c.len.result c.unwrap.result c.unwrap-2.result heads room n r b c.max_flow-total.ensures.left;
     }
 
 pub returns : goal.returns
@@ -111,14 +111,14 @@ returns c =
     let p : Plain d = c.requires.plain in
     let pv = c.args.drawing.now.points.ok.0 in
     let runs = c.as_slice.ensures.value in
-    let heads : c.lay-net.result.head.now ≡ heads_of d.runs = c.lay-net.ensures.heads ∙ ap heads_of runs in
-    let room : c.lay-net.new.left ≡ room_of d.runs = c.lay-net.ensures.room ∙ ap room_of runs in
+    let heads : c.laid-net.result.head.now ≡ heads_of d.runs = c.laid-net.ensures.heads ∙ ap heads_of runs in
+    let room : c.laid-net.new.left ≡ room_of d.runs = c.laid-net.ensures.room ∙ ap room_of runs in
     let n : c.len.result ≡ point_count d = c.len.ensures ∙ pv in
     let r : c.unwrap.result ≡ rack_of d = rack_is d p c.as_slice-2.result.now c.as_slice-2.ensures.value c.terminals-rack.result.0 c.terminals-rack.ensures.rack c.unwrap.result c.unwrap.ensures in
     let b : c.unwrap-2.result ≡ bar_of d = bar_is d p c.as_slice-2.result.now c.as_slice-2.ensures.value c.terminals-rack.result.1 c.terminals-rack.ensures.bar c.unwrap-2.result c.unwrap-2.ensures in
     record {
       answer = c.file.ensures
-          ∙ ap filed (relabel_is d c.lay-net.result.head.now c.lay-net.new.left c.max_flow-total.new.left c.max_flow-total.new.level c.len.result c.unwrap.result c.unwrap-2.result c.max_flow-total.result
+          ∙ ap filed (relabel_is d c.laid-net.result.head.now c.laid-net.new.left c.max_flow-total.new.left c.max_flow-total.new.level c.len.result c.unwrap.result c.unwrap-2.result c.max_flow-total.result
           heads room n r b c.max_flow-total.ensures.left c.max_flow-total.ensures.level c.max_flow-total.ensures.total);
       capacity = c.max_flow-total.ensures.capacity;
     }

@@ -24,8 +24,3 @@ returns-in-Limits c =
     let d = drawn c.args.self.now.points.now c.args.self.now.runs.now in
     any_from_yields_List (λ p. is_some p.limit) _ _ c.any-in-Limits.result c.any-in-Limits.ensures.ran (YieldsList-from_slice d.points (cc)) (λ x b q k. search (rules, tests))
     ∙ sym (some_items no_point d.points (λ p. is_some p.limit)) ∙ ap (uses d) (sym c.in-Limits.is)
-
-pub returns-in-Terminals : goal.returns-in-Terminals
-returns-in-Terminals c =
-    let d = drawn c.args.self.now.points.now c.args.self.now.runs.now in
-    c.ne.ensures ∙ ap₂ (λ r b. not (eqb r 1 && eqb b 1)) c.count.ensures c.count-in-Terminals.ensures ∙ ap (uses d) (sym c.in-Terminals.is)

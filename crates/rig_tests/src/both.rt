@@ -1,10 +1,10 @@
-// What the stack states over either bottom solver.
+// What the standard stack states over either bottom solver.
 ghost use Rattle.std.specs.Prelude.{◌≡◌, ◌&&◌, ◌==◌};
 
-use crate::{standard, statements_over};
 use dinic::Dinic;
 use drawing::Statements;
 use push_relabel::PushRelabel;
+use stacks::{standard, statements_over};
 use std::test::Fail;
 
 fn is_standard(s: Statements) -> bool
