@@ -1,8 +1,8 @@
 // The checks that every solver makes before it solves, in the order of the refusals' numbers.
-ghost use Rattle.std.specs.Prelude.{◌≡◌, is_ok, Decides, length};
+ghost use Rattle.std.specs.Prelude.{◌≡◌, ◌*◌, ◌≤◌, is_ok, Decides, length};
 ghost use Rattle.std.specs.List.{find};
-ghost use Rattle.drawing.specs.Counts.{count_to, nth};
-ghost use Rattle.drawing.specs.Drawings.{no_point, units as units_of, uses};
+ghost use Rattle.drawing.specs.Counts.{count_to, sum_to, nth};
+ghost use Rattle.drawing.specs.Drawings.{no_point, no_run, limit_of, units as units_of, uses};
 ghost use Rattle.drawing.specs.Records.{network};
 ghost use Rattle.drawing.specs.Solvers.{Carried, says_yes, lacks, is_within, refusal, told};
 ghost use Rattle.checkers.specs.Told.{features, has_mark, told_units};
@@ -40,19 +40,32 @@ impl Admitted<'_> {
             .sum()
     }
 
-    // The sum of the uppers and limits.
-    fn units(&self) -> u64
-        ensures { result ≡ units_of (seen self.now) }
+    // The sum of the uppers.
+    fn uppers(&self) -> u64
+        ensures value { result ≡ sum_to (length self.now.runs.now) (λ k. (nth self.now.runs.now k no_run).upper) }
+        ensures bound { result ≤ 1024 * 4294967295 }
     {
-        let uppers: u64 = self.runs.iter().map(|r| u64::from(r.upper)).sum();
-        let limits: u64 = self
-            .points
+        self.runs.iter().map(|r| u64::from(r.upper)).sum()
+    }
+
+    // The sum of the limits.
+    fn limits(&self) -> u64
+        ensures value { result ≡ sum_to (length self.now.points.now) (λ v. limit_of (nth self.now.points.now v no_point).limit) }
+        ensures bound { result ≤ 128 * 4294967295 }
+    {
+        self.points
             .iter()
             .filter_map(|p| p.limit)
             // A closure: of `u64::from` by its name, the bound of the sum does not know that it is passed a u32.
             .map(|l| u64::from(l))
-            .sum();
-        uppers + limits
+            .sum()
+    }
+
+    // The sum of the uppers and limits.
+    fn units(&self) -> u64
+        ensures { result ≡ units_of (seen self.now) }
+    {
+        self.uppers() + self.limits()
     }
 
     fn uses(&self, f: Feature) -> bool

@@ -12,7 +12,8 @@ ghost use Rattle.checkers.specs.Seen.{seen};
 use crate::admitted::Admitted;
 use drawing::{Drawing, Kind, Label, Mark, Point, Run};
 
-// An admitted drawing with a labelling of it: a label for each point, and only limited points are tight.
+// An admitted drawing with a labelling of it: a label for each point, and only limited points are tight. What makes it and
+// sums over it is inlined: with few points, to write it down to be passed costs more than it saves.
 #[derive(Clone, Copy)]
 pub(crate) struct Labelled<'a> {
     drawing: Admitted<'a>,
@@ -21,6 +22,7 @@ pub(crate) struct Labelled<'a> {
 }
 
 impl<'a> Labelled<'a> {
+    #[inline(always)]
     pub(crate) fn of(d: &'a Drawing, labels: &'a [Label]) -> Option<Self>
         ensures decides { is_some result ≡ (is_admissible (network d.now) && is_labelling (network d.now) labels.now) }
         ensures same { IfSome result (λ l. (seen l.drawing ≡ network d.now) × (l.labels.now ≡ labels.now)) }
@@ -29,6 +31,7 @@ impl<'a> Labelled<'a> {
     }
 
     // The same of a drawing that was tested already.
+    #[inline(always)]
     pub(crate) fn over(drawing: Admitted<'a>, labels: &'a [Label]) -> Option<Self>
         ensures decides { is_some result ≡ is_labelling (seen drawing.entry) labels.now }
         ensures same { IfSome result (λ l. (seen l.drawing ≡ seen drawing.entry) × (l.labels.now ≡ labels.now)) }
@@ -85,6 +88,7 @@ impl<'a> Labelled<'a> {
     }
 
     // The sum of what the runs and the tight points add, less what the runs take away.
+    #[inline(always)]
     pub(crate) fn worth(&self) -> i64
         ensures { result ≡ worth_of (seen self.now.drawing) self.now.labels.now }
     {
@@ -120,6 +124,7 @@ impl<'a> Labelled<'a> {
         !self.has(Mark::Rack, Label::Far) && !self.has(Mark::Bar, Label::Near)
     }
 
+    #[inline(always)]
     fn is_shortage(&self) -> bool
         ensures { result ≡ (int_lt (worth_of (seen self.now.drawing) self.now.labels.now) (pos 0) && not (far_rack (seen self.now.drawing) self.now.labels.now && near_bar (seen self.now.drawing) self.now.labels.now)) }
     {

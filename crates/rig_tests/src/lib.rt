@@ -1,4 +1,5 @@
-// Lists of calls on a rig, written as text with what each call is told; every list is performed and compared.
+// Lists of calls on a rig, written as text with what each call is told; every list is performed and compared. And what the
+// standard stack, which they solve by, states.
 #![tactic(auto)]
 
 #[cfg(test)]
